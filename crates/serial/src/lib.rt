@@ -1,0 +1,2 @@
+// The run of a transaction alone: the yardstick of every other way of running it.
+pub mod run;

@@ -1,0 +1,1 @@
+use slips::entry::Entry;

@@ -1,0 +1,3 @@
+// The text of a transaction and its entries.
+pub mod entries;
+pub mod entry;
