@@ -4,13 +4,14 @@ use crate::kind::Kind;
 use crate::operation::Argument;
 use crate::operation::Verb;
 
-// Part 0 is part 0 of `first`, and part `p + 1` is part `p` of `second`.
+// Part 0 is part 0 of `first`, and a part `p` above 0 is part `p - 1` of `second`.
 #[derive(Clone, Copy)]
 pub struct Pair<A, B> {
     pub first: A,
     pub second: B,
 }
 
+// Each operation touches its own part only, so the laws follow from those of the two.
 pub impl<A: Kind, B: Kind> Kind for Pair<A, B> as PairKind {
     ghost Meaning = { A·Kind .Meaning × B·Kind .Meaning };
 

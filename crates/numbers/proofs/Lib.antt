@@ -1,0 +1,2 @@
+pub mod CountLaws
+pub mod LeanLaws
