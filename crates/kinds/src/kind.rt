@@ -13,14 +13,14 @@ pub trait Kind: Copy {
 
     ghost model: { Model Meaning };
 
-    // Operations that split can be gathered in a shard and merged later, in any order.
+    // Operations that split can be collected in a shard and merged later, in any order.
     law laws: { Laws model };
 
     // Whether the part takes the operation.
     fn takes(part: u8, verb: Verb, argument: Argument) -> bool
         ensures { λ r. ⌜ r ≡ model .rule part verb .takes argument ⌝ };
 
-    // Whether operations of this verb may be gathered in a shard.
+    // Whether operations of this verb may be collected in a shard.
     fn splits(part: u8, verb: Verb) -> bool
         ensures { λ r. ⌜ r ≡ model .rule part verb .splits ⌝ };
 
@@ -36,11 +36,11 @@ pub trait Kind: Copy {
     fn apply(&mut self, part: u8, verb: Verb, argument: Argument)
         ensures { λ _. ⌜ meaning (now (self .exit)) ≡ model .rule part verb .apply argument (meaning (now (self .entry))) ⌝ };
 
-    // Makes the part an empty shard, to gather operations of this verb in.
+    // Makes the part an empty shard, to collect operations of this verb in.
     fn freshen(&mut self, part: u8, verb: Verb)
         ensures { λ _. ⌜ meaning (now (self .exit)) ≡ model .rule part verb .fresh (meaning (now (self .entry))) ⌝ };
 
-    // Takes in what was gathered in a shard.
+    // Takes in what was collected in a shard.
     fn merge(&mut self, part: u8, verb: Verb, shard: &Self)
         ensures { λ _. ⌜ meaning (now (self .exit)) ≡ model .rule part verb .merge (meaning (now (shard .entry))) (meaning (now (self .entry))) ⌝ };
 }

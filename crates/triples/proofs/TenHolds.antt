@@ -20,5 +20,5 @@ holds-none l e = holds [] [] l e (best-none triple-ranking 10)
 pub holds-more : (seen held l : List Triple) (a : Triple) → l ≡ topped held a → Holds seen held → Holds (a ∷ seen) l
 holds-more seen held l a e h = holds (a ∷ seen) (topped held a) l e (best-more triple-ranking 10 a seen held (h .best))
 
-pub holds-merged : (seen held gathered shard l : List Triple) → l ≡ folded topped held shard → Holds seen held → Holds gathered shard → Holds (gathered ++ seen) l
-holds-merged seen held gathered shard l e h g = holds (gathered ++ seen) (folded topped held shard) l e (best-merged triple-ranking 10 seen held gathered shard (h .best) (g .best))
+pub holds-merged : (seen held aside shard l : List Triple) → l ≡ folded topped held shard → Holds seen held → Holds aside shard → Holds (aside ++ seen) l
+holds-merged seen held aside shard l e h g = holds (aside ++ seen) (folded topped held shard) l e (best-merged triple-ranking 10 seen held aside shard (h .best) (g .best))

@@ -60,7 +60,7 @@ impl Ten {
     // These and those of `shard`, of which the ten of the highest orders stay: those of all that either has seen.
     pub fn with_all(self, shard: &Ten) -> Ten
         ensures items { λ r. ⌜ take (r .len) (r .triples) ≡ folded topped (take (self .len) (self .triples)) (take (now (shard .entry) .len) (now (shard .entry) .triples)) ⌝ }
-        ensures holds { λ r. ⌜ ((seen gathered : List Item) → Holds seen (take (self .len) (self .triples)) → Holds gathered (take (now (shard .entry) .len) (now (shard .entry) .triples)) → Holds (gathered ++ seen) (take (r .len) (r .triples))) ⌝ }
+        ensures holds { λ r. ⌜ ((seen aside : List Item) → Holds seen (take (self .len) (self .triples)) → Holds aside (take (now (shard .entry) .len) (now (shard .entry) .triples)) → Holds (aside ++ seen) (take (r .len) (r .triples))) ⌝ }
     {
         let mut merged = self;
         for i in 0..shard.len {

@@ -22,4 +22,4 @@ returns c =
     let w = c .args .shard .now in
     let all : c .loop-i .i ≡ w .len = omega arith in
     let merged = c .loop-i .inv ∙ ap (λ i. folded topped (take (x .len) (x .triples)) (take i (w .triples))) all in
-    record { items = merged; holds = λ seen gathered h g. holds-merged seen _ gathered _ _ merged h g }
+    record { items = merged; holds = λ seen aside h g. holds-merged seen _ aside _ _ merged h g }
