@@ -1,3 +1,8 @@
-// The text of a transaction and its entries.
+// The text of a transaction: entries of words one space apart, each entry ended by byte 10.
 pub mod entries;
 pub mod entry;
+pub mod fault;
+mod line;
+mod reader;
+
+pub use reader::read;

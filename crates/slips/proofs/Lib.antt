@@ -1,0 +1,5 @@
+pub mod Words
+pub mod Fitting
+pub mod Reading
+pub mod Exact
+pub mod Loop

@@ -1,0 +1,2 @@
+pub mod Spelled
+mod Found
