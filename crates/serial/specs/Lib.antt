@@ -1,2 +1,4 @@
+pub mod Alone
+pub mod Answers
 pub mod Places
 pub mod Serial

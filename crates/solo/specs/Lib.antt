@@ -1,0 +1,4 @@
+pub mod Codes
+pub mod History
+pub mod Rules
+pub mod View
