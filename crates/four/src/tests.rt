@@ -40,33 +40,24 @@ fn leans_wrap() -> Result<(), Fail> {
     check_eq(value.shown(1, 0), i64::MIN)
 }
 
+// Both parts then show one triple, and its order, worker and mark.
 #[test]
-fn the_greater_worker_stays() -> Result<(), Fail> {
-    let mut one = start();
-    change(&mut one, 2, Verb::Last, 50, 0, 7);
-    change(&mut one, 2, Verb::Last, 50, 1, 3);
-    let mut other = start();
-    change(&mut other, 2, Verb::Last, 50, 1, 3);
-    change(&mut other, 2, Verb::Last, 50, 0, 7);
-    for value in [one, other] {
-        check_eq(value.shown(2, 0), 1)?;
-        check_eq(value.shown(2, 1), 50)?;
-        check_eq(value.shown(2, 2), 1)?;
-        check_eq(value.shown(2, 3), 3)?;
+fn of_one_order_the_greater_worker_stays() -> Result<(), Fail> {
+    for (part, verb) in [(2, Verb::Last), (3, Verb::Top)] {
+        let mut one = start();
+        change(&mut one, part, verb, 50, 0, 7);
+        change(&mut one, part, verb, 50, 1, 3);
+        let mut other = start();
+        change(&mut other, part, verb, 50, 1, 3);
+        change(&mut other, part, verb, 50, 0, 7);
+        for value in [one, other] {
+            check_eq(value.shown(part, 0), 1)?;
+            check_eq(value.shown(part, 1), 50)?;
+            check_eq(value.shown(part, 2), 1)?;
+            check_eq(value.shown(part, 3), 3)?;
+        }
     }
     Ok(())
-}
-
-#[test]
-fn one_triple_for_one_order() -> Result<(), Fail> {
-    let mut value = start();
-    change(&mut value, 3, Verb::Top, 50, 1, 3);
-    change(&mut value, 3, Verb::Top, 50, 0, 7);
-    check_eq(value.shown(3, 0), 1)?;
-    check_eq(value.shown(3, 1), 50)?;
-    check_eq(value.shown(3, 2), 1)?;
-    check_eq(value.shown(3, 3), 3)?;
-    check_eq(value.shown(3, 4), 0)
 }
 
 #[test]
