@@ -18,7 +18,7 @@ use Rattle.slips.specs.Reads.{Read-as}
 use Rattle.slips.specs.declared.entry.Entry.{Entry}
 use Rattle.serial.specs.Serial.{serial}
 use Rattle.solo.specs.History.{Asked, place-in, places-of, numbers, Turns, Then, Serially, History, Whole-runs}
-use Rattle.solo.specs.Rules.{State, Receipt, Turn, early, late, refuses, commits, run-late, run-read, Run-by, Run-as, good-figures}
+use Rattle.solo.specs.Rules.{State, Commit, Turn, early, late, refuses, commits, run-late, run-read, Run-by, Run-as, good-figures}
 
 and-second : (a b : Bool) → (a && b) ≡ true → b ≡ true
 and-second true b h = h
@@ -51,7 +51,7 @@ module _ {M : Type 0} (k : Model M) where
 
   module _ (s s′ : State M) (w : ℕ) (text : List ℕ) (ts : List Asked) where
     -- the same of a turn with the answer a, and then of those
-    abbrev After : Result Receipt (List ℕ) → Type 0
+    abbrev After : Result Commit (List ℕ) → Type 0
     After a =
         (place-in a ++ places-of ts ≡ numbers (s .given + 1) (length (place-in a ++ places-of ts))) × Then k a w text (s .values) (λ us. Serially k us ts (s′ .values))
 
@@ -61,7 +61,7 @@ module _ {M : Type 0} (k : Model M) where
       (es, h, record { answers = refl; skipped = refl }, i .1),
     )
 
-    after : (m : State M) (a : Result Receipt (List ℕ)) → Either s w text (record { state = m; answer = a }) → Turns k m ts s′
+    after : (m : State M) (a : Result Commit (List ℕ)) → Either s w text (record { state = m; answer = a }) → Turns k m ts s′
         → ((n : State M) → Turns k n ts s′ → Goes (n .given + 1) (n .values) ts s′) → After a
     after m a (inl r) rest all = subst After (sym (ap (λ (t : Turn M). t .answer) (r .1))) (all s (subst (λ (n : State M). Turns k n ts s′) (ap (λ (t : Turn M). t .state) (r .1)) rest))
     after m a (inr r) rest all =
@@ -93,7 +93,7 @@ module _ {M : Type 0} (k : Model M) where
   still : (s m : State M) (w : ℕ) (text c : List ℕ) → Either s w text (record { state = m; answer = Err c }) → m ≡ s
   still s m w text c (inl r) = ap (λ (t : Turn M). t .state) (r .1)
   still s m w text c (inr r) =
-      let e : _≡_ {A = Result Receipt (List ℕ)} (Err c) (commits k s w (r .0) .answer) = ap (λ (t : Turn M). t .answer) (r .2) in
+      let e : _≡_ {A = Result Commit (List ℕ)} (Err c) (commits k s w (r .0) .answer) = ap (λ (t : Turn M). t .answer) (r .2) in
       absurd (let z : _≡_ {A = ℕ} 0 1 = cc in omega arith)
 
 pub whole-runs : {M : Type 0} (k : Model M) → Whole-runs k

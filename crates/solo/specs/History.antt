@@ -10,16 +10,16 @@ use Rattle.kinds.specs.Model.{Model}
 use Rattle.slips.specs.Reads.{Read-as}
 use Rattle.slips.specs.declared.entry.Entry.{Entry}
 use Rattle.serial.specs.Serial.{Ran, serial}
-use Rattle.solo.specs.Rules.{State, Receipt, Run-as, opening}
+use Rattle.solo.specs.Rules.{State, Commit, Run-as, opening}
 
 -- one turn, as those outside see it: who asked with which text, and what came back
 pub record Asked : Type 0 where
   pub worker : ℕ
   pub text : List ℕ
-  pub answer : Result Receipt (List ℕ)
+  pub answer : Result Commit (List ℕ)
 
 -- the places that turns were given, in their order
-abbrev pub place-in : Result Receipt (List ℕ) → List ℕ
+abbrev pub place-in : Result Commit (List ℕ) → List ℕ
 place-in (Ok r) = r .place ∷ []
 place-in (Err c) = []
 
@@ -38,13 +38,13 @@ module _ {M : Type 0} (k : Model M) where
   Turns s [] s′ = s′ ≡ s
   Turns s (t ∷ ts) s′ = (m : State M) × Run-as k s (t .worker) (t .text) (record { state = m; answer = t .answer }) × Turns m ts s′
 
-  -- a receipt has the readings of a run
-  pub record Gave (r : Receipt) (ran : Ran M) : Type 0 where
+  -- a commit has the readings of a run
+  pub record Gave (r : Commit) (ran : Ran M) : Type 0 where
     pub answers : r .answers ≡ ran .answers
     pub skipped : r .skipped ≡ ran .skipped
 
   -- one turn on the values, and then the rest: a committed one runs its entries alone and gives their readings, a refused one does nothing
-  abbrev pub Then : Result Receipt (List ℕ) → ℕ → List ℕ → List M → (List M → Type 0) → Type 0
+  abbrev pub Then : Result Commit (List ℕ) → ℕ → List ℕ → List M → (List M → Type 0) → Type 0
   Then (Ok r) w text vs rest = (es : List Entry) × Read-as text (Ok es) × Gave r (serial k w 0 es vs) × rest (serial k w 0 es vs .values)
   Then (Err c) w text vs rest = rest vs
 

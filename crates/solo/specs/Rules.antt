@@ -25,7 +25,7 @@ pub record State (M : Type 0) : Type 0 where
   pub values : List M
 
 -- what a committed transaction is told: its place in the serial order, and its readings
-pub record Receipt : Type 0 where
+pub record Commit : Type 0 where
   pub place : ℕ
   pub answers : List ℤ
   pub skipped : Option ℕ
@@ -33,7 +33,7 @@ pub record Receipt : Type 0 where
 -- what a turn leaves and answers
 pub record Turn (M : Type 0) : Type 0 where
   pub state : State M
-  pub answer : Result Receipt (List ℕ)
+  pub answer : Result Commit (List ℕ)
 
 -- the code of the first test that finds something wrong
 abbrev pub first-of : List (Bool × List ℕ) → Option (List ℕ)

@@ -11,7 +11,7 @@ ghost use Rattle.slips.specs.Listed.{entries-of};
 ghost use Rattle.solo.specs.Codes.{coded};
 ghost use Rattle.solo.specs.History.{Whole-runs};
 ghost use Rattle.solo.specs.Rules.{commits, early, good-figures, opening, refuse-or, shown-at, Run-as, Turn};
-ghost use Rattle.solo.specs.View.{receipt, view};
+ghost use Rattle.solo.specs.View.{commit-of, view};
 use crate::checks::check_entries;
 use crate::refusal::Refusal;
 use crate::refusal::RefusalFromAlloc;
@@ -63,8 +63,8 @@ impl<K: Kind> Solo<K> {
 
     // Runs the transaction that the text says, or refuses it and changes nothing: this turn, and no other, is what the rules allow.
     pub fn run(&mut self, worker: u64, text: &[u8]) -> Result<Committed, Refusal>
-        ensures runs { λ r. ⌜ Run-as (K·Kind .model) (view (K·Kind .meaning) (now (self .entry))) worker (now (text .entry)) (record { state = view (K·Kind .meaning) (now (self .exit)); answer = coded receipt r }) ⌝ }
-        ensures only { λ r. ⌜ ((t : Turn (K·Kind .Meaning)) → Run-as (K·Kind .model) (view (K·Kind .meaning) (now (self .entry))) worker (now (text .entry)) t → t ≡ record { state = view (K·Kind .meaning) (now (self .exit)); answer = coded receipt r }) ⌝ }
+        ensures runs { λ r. ⌜ Run-as (K·Kind .model) (view (K·Kind .meaning) (now (self .entry))) worker (now (text .entry)) (record { state = view (K·Kind .meaning) (now (self .exit)); answer = coded commit-of r }) ⌝ }
+        ensures only { λ r. ⌜ ((t : Turn (K·Kind .Meaning)) → Run-as (K·Kind .model) (view (K·Kind .meaning) (now (self .entry))) worker (now (text .entry)) t → t ≡ record { state = view (K·Kind .meaning) (now (self .exit)); answer = coded commit-of r }) ⌝ }
     {
         let worker = self.admit(worker)?;
         let entries = read(text)?;
@@ -99,7 +99,7 @@ impl<K: Kind> Solo<K> {
     // Runs the entries on the values, at the next place.
     fn commit(&mut self, worker: u8, entries: &Entries) -> Committed
         requires { ⌜ (now self .given ≡ 2 ^ 64 - 1 → ⊥) ⌝ }
-        ensures { λ r. ⌜ record { state = view (K·Kind .meaning) (now (self .exit)); answer = Ok (receipt r) } ≡ commits (K·Kind .model) (view (K·Kind .meaning) (now (self .entry))) worker (entries-of (now (entries .entry))) ⌝ }
+        ensures { λ r. ⌜ record { state = view (K·Kind .meaning) (now (self .exit)); answer = Ok (commit-of r) } ≡ commits (K·Kind .model) (view (K·Kind .meaning) (now (self .entry))) worker (entries-of (now (entries .entry))) ⌝ }
     {
         let readings = run_alone(&mut self.values, worker, entries);
         self.given += 1;

@@ -14,8 +14,8 @@ use Rattle.std.specs.declared.result.Result.the-variants.{Ok, Err}
 use Rattle.slips.specs.Listed.{entries-of}
 use Rattle.slips.specs.Reads.{code as fault-code}
 use Rattle.solo.specs.Codes.{code, coded}
-use Rattle.solo.specs.Rules.{State, Receipt, Turn, commits, early, late, run-late}
-use Rattle.solo.specs.View.{receipt, view}
+use Rattle.solo.specs.Rules.{State, Commit, Turn, commits, early, late, run-late}
+use Rattle.solo.specs.View.{commit-of, view}
 use Rattle.solo.specs.declared.refusal.Refusal.{Refusal}
 use Rattle.solo.specs.declared.solo.Committed.{Committed}
 use Rattle.solo.proofs.Admitting.{second-passed}
@@ -24,8 +24,8 @@ use Rattle.solo.proofs.solo.Solo.run.Needs as need
 
 -- a refused turn, from the refusal that the code returns
 refusing : {M : Type 0} (s : State M) (r : Result Committed Refusal) (y : Refusal) (c : List ℕ) → r ≡ Err y → code y ≡ c
-    → _≡_ {A = Turn M} (record { state = s; answer = coded receipt r }) (record { state = s; answer = Err c })
-refusing s r y c p e = ap (λ (a : Result Receipt (List ℕ)). record { state = s; answer = a }) (ap (coded receipt) p ∙ ap Err e)
+    → _≡_ {A = Turn M} (record { state = s; answer = coded commit-of r }) (record { state = s; answer = Err c })
+refusing s r y c p e = ap (λ (a : Result Commit (List ℕ)). record { state = s; answer = a }) (ap (coded commit-of) p ∙ ap Err e)
 
 pub commit-requires : need.commit-requires
 commit-requires g c κs =

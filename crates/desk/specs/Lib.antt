@@ -1,0 +1,4 @@
+pub mod Engines
+pub mod Turns
+pub mod Commands
+pub mod Lines

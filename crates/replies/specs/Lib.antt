@@ -1,0 +1,3 @@
+pub mod Replies
+pub mod Totals
+pub mod Texts
