@@ -17,7 +17,8 @@ copied. Words stand one space apart.
                                   byte 10, \\\\ a backslash and \\xHH any byte
   tally T.P W                     show number W of part P of tally T
 
-The status is 0, or 1 if a line was not understood.
+The status is 0, or 1 if a line was not understood or the script could not be
+read.
 ";
 
 fn main(rt: LibcRuntime) -> Result<(), AnyError> {

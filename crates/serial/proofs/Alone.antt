@@ -1,4 +1,4 @@
--- Every run alone is what its entries say. Assumes nothing.
+-- Every run alone is what its entries say.
 use mathlib.Core.Path.{_≡_, refl, sym, ap, subst, _∙_}
 use mathlib.Core.Bool.{Bool, true, false, cond}
 use mathlib.Core.List.{List, [], _∷_, _++_}

@@ -1,4 +1,4 @@
--- One element of a list, as the meanings of the list see it. Assumes nothing.
+-- One element of a list, as the meanings of the list see it.
 use mathlib.Core.Path.{_≡_, refl, sym, ap, _∙_}
 use mathlib.Core.List.{List, [], _∷_, map}
 use Prim.Native.Nat.{ℕ, zero, suc, _<_, _≤_}

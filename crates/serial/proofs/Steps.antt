@@ -1,4 +1,4 @@
--- A run alone, one entry after another from the front. Assumes nothing.
+-- A run alone, one entry after another from the front.
 use mathlib.Core.Path.{_≡_, sym, ap, _∙_}
 use mathlib.Core.Bool.{Bool, true, false, cond}
 use mathlib.Core.List.{List, [], _∷_, _++_, append-assoc, append-nil}

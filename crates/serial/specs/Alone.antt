@@ -1,4 +1,4 @@
--- What a run alone means, entry by entry: which entries ran, what they answered, and which `need` stopped them. Assumes nothing.
+-- What a run alone means, entry by entry: which entries ran, what they answered, and which `need` stopped them.
 use mathlib.Core.Path.{_≡_}
 use mathlib.Core.Bool.{Bool, true, false}
 use mathlib.Core.List.{List, [], _∷_, _++_}

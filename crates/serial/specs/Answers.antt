@@ -1,4 +1,4 @@
--- The answers that a value of the code holds. Assumes nothing.
+-- The answers that a value of the code holds.
 use mathlib.Core.List.{List}
 use lib.IntN.{ℤ}
 use lib.ListN.{take}

@@ -1,4 +1,4 @@
--- Lists by place: a change of one element, and a number read off one. Assumes nothing.
+-- Lists by place: a change of one element, and a number read off one.
 use mathlib.Core.List.{List, [], _∷_}
 use Prim.Native.Nat.{ℕ, zero, suc}
 use lib.IntN.{ℤ, pos}

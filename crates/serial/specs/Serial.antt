@@ -1,4 +1,4 @@
--- What a transaction does when it runs alone, directly on the values. Assumes nothing.
+-- What a transaction does when it runs alone, directly on the values.
 use mathlib.Core.Bool.{cond}
 use mathlib.Core.List.{List, [], _∷_}
 use Prim.Native.Nat.{ℕ, suc}

@@ -1,4 +1,4 @@
--- A text is read in one way at most: it has one list of entries, or one place where it fails. Assumes nothing.
+-- A text is read in one way at most: it has one list of entries, or one place where it fails.
 use mathlib.Core.Path.{_≡_, refl, sym, ap, subst, _∙_}
 use mathlib.Core.Bool.{cond}
 use mathlib.Core.List.{List, [], _∷_, _++_}

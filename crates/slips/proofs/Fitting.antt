@@ -1,4 +1,4 @@
--- Entries and the forms of their words. Assumes nothing.
+-- Entries and the forms of their words.
 use mathlib.Core.Path.{_≡_, refl, sym, ap, subst, _∙_}
 use mathlib.Core.Bool.{true, false, cond}
 use mathlib.Core.List.{List, [], _∷_, _++_}

@@ -1,4 +1,4 @@
--- The reader's loop: the entries read so far, and the room for one more. Assumes nothing.
+-- The reader's loop: the entries read so far, and the room for one more.
 use mathlib.Core.Path.{_≡_, refl, sym, ap, _∙_}
 use mathlib.Core.Bool.{cond}
 use mathlib.Core.List.{List, [], _∷_, _++_}

@@ -1,4 +1,4 @@
--- The words of an entry as they are read one by one, and what a wrong one says of the text. Assumes nothing.
+-- The words of an entry as they are read one by one, and what a wrong one says of the text.
 use mathlib.Core.Path.{_≡_, refl, sym, ap, subst, _∙_}
 use mathlib.Core.List.{List, [], _∷_, _++_}
 use mathlib.Core.Logic.{inl, inr, ⊎-elim}

@@ -1,4 +1,4 @@
--- The words of a text that begins with words one space apart. Assumes nothing.
+-- The words of a text that begins with words one space apart.
 use mathlib.Core.Path.{_≡_, refl, sym, ap, _∙_}
 use mathlib.Core.Bool.{Bool, true, false, cond}
 use mathlib.Core.List.{List, [], _∷_, _++_}

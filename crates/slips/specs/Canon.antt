@@ -1,4 +1,4 @@
--- The canonical text of entries. Assumes nothing.
+-- The canonical text of entries.
 use mathlib.Core.Path.{_≡_}
 use mathlib.Core.Bool.{Bool, true, false, cond}
 use mathlib.Core.List.{List, [], _∷_, _++_}

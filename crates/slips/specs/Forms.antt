@@ -1,4 +1,4 @@
--- The forms of an entry's words, and what the reader of one entry says by them. Assumes nothing.
+-- The forms of an entry's words, and what the reader of one entry says by them.
 use mathlib.Core.Path.{_≡_}
 use mathlib.Core.Bool.{cond}
 use mathlib.Core.List.{List, [], _∷_, _++_}

@@ -1,4 +1,4 @@
--- The entries that a value of the code holds. Assumes nothing.
+-- The entries that a value of the code holds.
 use mathlib.Core.List.{List}
 use lib.ListN.{take}
 use Rattle.slips.specs.declared.entry.Entry.{Entry}

@@ -1,4 +1,4 @@
--- Which texts are read, as what, and how another is refused. Assumes nothing.
+-- Which texts are read, as what, and how another is refused.
 use mathlib.Core.Path.{_≡_}
 use mathlib.Core.List.{List, [], _∷_}
 use mathlib.Core.Logic.{_⊎_}

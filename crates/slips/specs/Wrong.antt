@@ -1,4 +1,4 @@
--- Where a text first departs from the canonical text of entries. Assumes nothing.
+-- Where a text first departs from the canonical text of entries.
 use mathlib.Core.Path.{_≡_}
 use mathlib.Core.Bool.{cond}
 use mathlib.Core.List.{List, [], _∷_, _++_}

@@ -1,4 +1,4 @@
--- What a turn that is not refused early knows. Assumes nothing.
+-- What a turn that is not refused early knows.
 use mathlib.Core.Path.{_≡_, refl}
 use mathlib.Core.Bool.{Bool, true, false}
 use mathlib.Core.List.{List, [], _∷_}

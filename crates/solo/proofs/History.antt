@@ -1,4 +1,4 @@
--- Every whole run is a serial one. Assumes nothing.
+-- Every whole run is a serial one.
 use mathlib.Core.Path.{_≡_, refl, sym, ap, subst, _∙_}
 use mathlib.Core.Bool.{Bool, true, false, cond, _&&_}
 use mathlib.Core.List.{List, [], _∷_, _++_}

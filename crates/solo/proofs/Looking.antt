@@ -1,4 +1,4 @@
--- What a look at a record gives, by cases. Assumes nothing.
+-- What a look at a record gives, by cases.
 use mathlib.Core.Path.{_≡_, sym, ap, _∙_}
 use mathlib.Core.Bool.{Bool, true, false, cond, _&&_}
 use mathlib.Core.List.{List, map}

@@ -1,4 +1,4 @@
--- A loop for the first entry that a test finds wrong. Assumes nothing.
+-- A loop for the first entry that a test finds wrong.
 use mathlib.Core.Path.{_≡_, sym, ap, _∙_}
 use mathlib.Core.Bool.{Bool, true, false, cond}
 use mathlib.Core.List.{List}

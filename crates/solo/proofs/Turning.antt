@@ -1,4 +1,4 @@
--- The turn that the rules allow, and no other, by the way that it went. Assumes nothing.
+-- The turn that the rules allow, and no other, by the way that it went.
 use mathlib.Core.Path.{_≡_, refl, sym, ap, subst, _∙_}
 use mathlib.Core.List.{List}
 use Prim.Native.Nat.{ℕ}

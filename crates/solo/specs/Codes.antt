@@ -1,4 +1,4 @@
--- The number of each refusal, with its values. Assumes nothing.
+-- The number of each refusal, with its values.
 use mathlib.Core.List.{List, [], _∷_}
 use Prim.Native.Nat.{ℕ}
 use Rattle.std.specs.declared.result.Result.{Result}

@@ -1,4 +1,4 @@
--- Whole runs of the engine: turn after turn, refused ones counted in. Assumes nothing.
+-- Whole runs of the engine: turn after turn, refused ones counted in.
 use mathlib.Core.Path.{_≡_}
 use mathlib.Core.Bool.{true}
 use mathlib.Core.List.{List, [], _∷_, _++_}

@@ -1,4 +1,4 @@
--- The rules of the engine: what it holds, how a turn is refused, and what a committed one does. Assumes nothing.
+-- The rules of the engine: what it holds, how a turn is refused, and what a committed one does.
 use mathlib.Core.Path.{_≡_}
 use mathlib.Core.Bool.{Bool, not, cond, _&&_}
 use mathlib.Core.List.{List, [], _∷_}

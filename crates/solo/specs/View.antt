@@ -1,4 +1,4 @@
--- The engine and its answers as the rules have them. Assumes nothing.
+-- The engine and its answers as the rules have them.
 use mathlib.Core.List.{map}
 use Rattle.std.specs.Of.Vec.{vec-items}
 use Rattle.serial.specs.Answers.{answers-of}

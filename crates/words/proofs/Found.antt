@@ -1,4 +1,4 @@
--- A word at its place in a text. Assumes nothing.
+-- A word at its place in a text.
 use mathlib.Core.Path.{_≡_, sym, ap, subst, _∙_}
 use mathlib.Core.Logic.{_⊎_, inl, inr}
 use mathlib.Core.List.{List, _++_}

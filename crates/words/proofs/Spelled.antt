@@ -1,4 +1,4 @@
--- What the canonical spelling of a number is like. Assumes nothing.
+-- What the canonical spelling of a number is like.
 use mathlib.Core.Path.{_≡_, refl, sym, ap, subst, _∙_}
 use mathlib.Core.Logic.{⊎-elim}
 use mathlib.Core.List.{List, [], _∷_, _++_}

@@ -1,4 +1,4 @@
--- How numbers and keys are spelled, and what it is to read one. Assumes nothing.
+-- How numbers and keys are spelled, and what it is to read one.
 use mathlib.Core.Path.{_≡_}
 use mathlib.Core.List.{List, _∷_, _++_}
 use Prim.Native.Nat.{ℕ, _<_, _≤_}

@@ -1,4 +1,4 @@
--- A word that a text has at a place. Assumes nothing.
+-- A word that a text has at a place.
 use mathlib.Core.Path.{_≡_}
 use mathlib.Core.List.{List, [], _∷_, _++_}
 use mathlib.Core.Logic.{_⊎_}
