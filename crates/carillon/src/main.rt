@@ -1,4 +1,6 @@
 // The program: it serves a script from a file or from standard input.
+#![tactic(auto)]
+
 use anyhow::anyhow;
 use desk::serve::serve;
 use std::env;

@@ -1,4 +1,6 @@
 // Serves a script that has lines of every kind, those that are not understood too.
+#![tactic(auto)]
+
 use desk::serve::serve;
 use std::io;
 use std::io::BufReader;

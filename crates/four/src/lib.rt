@@ -1,4 +1,6 @@
 // The value of a record: a count, a lean, the last triple and the ten of the highest orders, as the parts 0 to 3.
+#![tactic(auto)]
+
 ghost use Rattle.std.specs.Prelude.{◌≡◌, [], take, pos, None};
 ghost use Rattle.kinds.specs.Model.{Parts};
 ghost use Rattle.four.specs.Fours.{four_model, Sound};

@@ -1,4 +1,6 @@
 // The script language: which lines are commands, what each asks for, and the escapes of a text.
+#![tactic(auto)]
+
 mod commands;
 mod escapes;
 mod lines;

@@ -1,4 +1,6 @@
 // Reads texts, right and wrong, and says what the reader says of them.
+#![tactic(auto)]
+
 use kinds::operation::Verb;
 use slips::entry::{Action, Entry};
 use slips::fault::Fault;
