@@ -3,7 +3,7 @@ use Rattle.std.proofs.Common.{rules}
 use Rattle.script.proofs.Names.{kind_none}
 use Rattle.script.proofs.commands.open.Goals as goal
 
-pub returns-in-err-kind : goal.returns-in-err-kind
-returns-in-err-kind c =
-    let none = kind_none c.in-ok-first.words.now c.in-err-kind.ensures in
+pub returns-in_err-kind : goal.returns-in_err-kind
+returns-in_err-kind c =
+    let none = kind_none c.in_ok-first.words.now c.in_err-kind.ensures in
     search rules

@@ -10,12 +10,12 @@ loop-rest-init c =
     let o = unescaped c.args.text.now in
     after_none o ∙ ap (λ (l : List ℕ). after l o) (sym c.new-bytes.ensures.items)
 
-pub returns-in-default : goal.returns-in-default
-returns-in-default c =
-    record { bytes = sym (c.loop-rest.invariant ∙ ap (after (vec_items c.loop-rest.bytes)) c.in-default.ensures); reads_back = read_back }
+pub returns-in_default : goal.returns-in_default
+returns-in_default c =
+    record { bytes = sym (c.loop-rest.invariant ∙ ap (after (vec_items c.loop-rest.bytes)) c.in_default.ensures); reads_back = read_back }
 
-pub returns-in-err-push : goal.returns-in-err-push
-returns-in-err-push c = record { bytes = search rules; reads_back = read_back }
+pub returns-in_err-push : goal.returns-in_err-push
+returns-in_err-push c = record { bytes = search rules; reads_back = read_back }
 
 pub loop-rest-smaller : goal.loop-rest-smaller
 loop-rest-smaller c = c.in-Some.ensures.1
@@ -27,7 +27,7 @@ loop-rest-preserved c =
     c.loop-rest.invariant
     ∙ ap (after read) c.in-Some.ensures.0
     ∙ after_more read c.in-Some.byte o
-    ∙ ap (λ (l : List ℕ). after l o) (sym c.in-ok-push.ensures.items)
+    ∙ ap (λ (l : List ℕ). after l o) (sym c.in_ok-push.ensures.items)
 
 pub returns : goal.returns
 returns c =

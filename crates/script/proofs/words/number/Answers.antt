@@ -15,24 +15,24 @@ returns-then-b-lt48 c =
     let d = digit_at c.args.word.now c.loop-b.b-index ds (omega arith) in
     elim c.then-b-lt48.branch [ then-b-lt48-via-then-b-lt48 w ↦ omega arith | then-b-lt48-via-else-b-lt48+then-b-gt57 w ↦ omega arith ]))
 
-pub returns-in-err-checked-mul : goal.returns-in-err-checked-mul
-returns-in-err-checked-mul c =
+pub returns-in_err-checked_mul : goal.returns-in_err-checked_mul
+returns-in_err-checked_mul c =
     let i = c.loop-b.b-index in
     let w = c.args.word.now in
     let one = digits_value_more 10 w i (omega arith) in
-    c.from-residual.ensures ∙ sym (unspelt w (λ some ds small.
+    c.from_residual.ensures ∙ sym (unspelt w (λ some ds small.
     let part = front_value (i + 1) 0 w in
-    c.in-err-checked-mul.ensures (omega arith)))
+    c.in_err-checked_mul.ensures (omega arith)))
 
-pub returns-in-err-n : goal.returns-in-err-n
-returns-in-err-n c =
+pub returns-in_err-n : goal.returns-in_err-n
+returns-in_err-n c =
     let i = c.loop-b.b-index in
     let w = c.args.word.now in
     let one = digits_value_more 10 w i (omega arith) in
     let is = digit_value_digit (get_or w i 0) (omega arith, omega arith) in
-    c.from-residual-in-err-n.ensures ∙ sym (unspelt w (λ some ds small.
+    c.from_residual-in_err-n.ensures ∙ sym (unspelt w (λ some ds small.
     let part = front_value (i + 1) 0 w in
-    c.in-err-n.ensures (omega (arith, c.in-ok-checked-mul.ensures))))
+    c.in_err-n.ensures (omega (arith, c.in_ok-checked_mul.ensures))))
 
 pub loop-b-preserved : goal.loop-b-preserved
 loop-b-preserved c =
@@ -40,7 +40,7 @@ loop-b-preserved c =
     let w = c.args.word.now in
     let one = digits_value_more 10 w i (omega arith) in
     let is = digit_value_digit (get_or w i 0) (omega arith, omega arith) in
-    (digits_more 10 w i (omega arith) c.loop-b.invariant.0 (omega arith), omega (arith, c.in-ok-checked-mul.ensures, c.in-ok-n.ensures), omega (arith, c.in-ok-n.ensures))
+    (digits_more 10 w i (omega arith) c.loop-b.invariant.0 (omega arith), omega (arith, c.in_ok-checked_mul.ensures, c.in_ok-n.ensures), omega (arith, c.in_ok-n.ensures))
 
 pub returns : goal.returns
 returns c =

@@ -7,7 +7,7 @@ use Rattle.serial.proofs.run.read.Goals as goal
 pub returns-in-Some : goal.returns-in-Some
 returns-in-Some g c =
     let found = c.in-Some.ensures.lookup in
-    to_z-of_z w64 c.shown.result (record { sfits = c.shown.type-inv })
+    to_z-of_z w64 c.shown.result (record { sfits = c.shown.type_inv })
     ∙ c.shown.ensures
     ∙ read_within g.K.Kind.meaning c.args.values.now c.args.entry.key c.in-Some.value.now found.3.0 found.1
     (g.K.Kind.model.shown c.args.entry.part c.args.number)

@@ -8,7 +8,7 @@ use Rattle.slips.proofs.Loop.{Read, read_more, read_all, room, fails_there}
 use Rattle.slips.proofs.reader.read.Goals as goal
 
 pub push-requires : goal.push-requires
-push-requires c = omega (arith, room _ _ _ _ _ c.loop-at.invariant c.in-Ok.ensures, c.count-endings.ensures)
+push-requires c = omega (arith, room _ _ _ _ _ c.loop-at.invariant c.in-Ok.ensures, c.count_endings.ensures)
 
 pub loop-at-preserved : goal.loop-at-preserved
 loop-at-preserved c = subst (λ l. Read c.args.text.now l c.in-Ok.next) (sym c.push.ensures) (read_more _ _ _ _ _ c.loop-at.invariant c.in-Ok.ensures)

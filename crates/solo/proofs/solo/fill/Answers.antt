@@ -6,6 +6,6 @@ use Rattle.solo.proofs.solo.fill.Goals as goal
 pub loop-i-preserved : goal.loop-i-preserved
 loop-i-preserved g c =
     let m = g.K.Kind.meaning in
-    ap (map m) c.in-ok-push.ensures.items ∙ map_push m (vec_items c.loop-i.values) c.args.start
+    ap (map m) c.in_ok-push.ensures.items ∙ map_push m (vec_items c.loop-i.values) c.args.start
     ∙ ap (λ (ys : List g.K.Kind.Meaning). ys ++ (m c.args.start ∷ [])) c.loop-i.invariant
     ∙ replicate_more c.loop-i.-i (m c.args.start)

@@ -12,12 +12,12 @@ returns-in-Some c =
     let is : negsuc (n - 1) ≡ to_z w64 (of_z w64 (negsuc 0 -ℤ to_z w64 (n - 1))) = omega (arith, ints, c.in-Some.ensures) in
     (search rules, spells_negative c.args.bytes.now (search rules) (search rules) n (omega arith) c.in-Some.ensures.1 ∙ ap signed_decimal is)
 
-pub returns-in-default-unsigned : goal.returns-in-default-unsigned
-returns-in-default-unsigned c = λ z h.
+pub returns-in_default-unsigned : goal.returns-in_default-unsigned
+returns-in_default-unsigned c = λ z h.
     let m = negative c.args.bytes.now (search rules) (search rules) z h.0 h.1 in
     omega (arith, decimal_injective c.in-Some.n m.0 (omega arith) (omega arith) (sym c.in-Some.ensures.1 ∙ m.3))
 
-pub returns-in-default-unsigned·2 : goal.returns-in-default-unsigned·2
-returns-in-default-unsigned·2 c = λ z h.
+pub returns-in_default-unsigned-2 : goal.returns-in_default-unsigned-2
+returns-in_default-unsigned-2 c = λ z h.
     let m = negative c.args.bytes.now (search rules) (search rules) z h.0 h.1 in
-    c.in-default-unsigned.ensures m.0 (m.2, m.3)
+    c.in_default-unsigned.ensures m.0 (m.2, m.3)

@@ -12,9 +12,9 @@ pub returns : goal.returns
 returns g c =
     let m = g.K.Kind.meaning in
     let s = c.args.self.now in
-    let r = c.run-alone-readings.result in
-    let xs = c.run-alone-readings.new.values in
-    let long : length xs ≡ s.values.len = omega (arith, c.run-alone-readings.auto.values, c.deref-mut.ensures.len) in
+    let r = c.run_alone-readings.result in
+    let xs = c.run_alone-readings.new.values in
+    let long : length xs ≡ s.values.len = omega (arith, c.run_alone-readings.auto.values, c.deref_mut.ensures.len) in
     ap (λ (ys : List g.row.K.Denot). commits_as g.K.Kind.model (view m s) (record { values = map m ys; answers = answers_of r; skipped = r.skipped })) (take_at xs _ s.values.len long)
-    ∙ ap (commits_as g.K.Kind.model (view m s)) c.run-alone-readings.ensures
-    ∙ ap (λ (ys : List g.row.K.Denot). commits_as g.K.Kind.model (view m s) (serial g.K.Kind.model c.args.worker 0 (entries_of c.args.entries.now) (map m ys))) c.deref-mut.ensures.value
+    ∙ ap (commits_as g.K.Kind.model (view m s)) c.run_alone-readings.ensures
+    ∙ ap (λ (ys : List g.row.K.Denot). commits_as g.K.Kind.model (view m s) (serial g.K.Kind.model c.args.worker 0 (entries_of c.args.entries.now) (map m ys))) c.deref_mut.ensures.value
