@@ -6,11 +6,11 @@ use Rattle.triples.specs.Tens.{tops, top_falls}
 use Rattle.triples.proofs.TenHolds.{holds_more}
 use Rattle.triples.proofs.ten.Ten.with.Goals as goal
 
-pub invariant-of-result : goal.invariant-of-result
-invariant-of-result c =
+pub invariant_of-result : goal.invariant_of-result
+invariant_of-result c =
     let before = tops c.args.self.len c.args.self.triples c.args.self.few c.args.self.falls in
     let falls = subst (λ l. T (falling by_order l)) (sym c.insert-len.ensures.placed) (top_falls before c.args.new) in
-    (search rules, (c.insert-len.ensures.few, (falls, tt)))
+    record { long = search rules; few = c.insert-len.ensures.few; falls = falls }
 
 pub returns : goal.returns
 returns c =
