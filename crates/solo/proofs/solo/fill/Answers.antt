@@ -8,4 +8,4 @@ loop-i-preserved g c =
     let m = g.K.Kind.meaning in
     ap (map m) c.in_ok-push.ensures.items ∙ map_push m (vec_items c.loop-i.values) c.args.start
     ∙ ap (λ (ys : List g.K.Kind.Meaning). ys ++ (m c.args.start ∷ [])) c.loop-i.invariant
-    ∙ replicate_more c.loop-i.-i (m c.args.start)
+    ∙ replicate_more c.loop-i._i (m c.args.start)

@@ -3,4 +3,4 @@ use Rattle.std.proofs.Common.{◌≡◌, map, replicate, vec_items}
 use Rattle.solo.proofs.solo.fill.Given as goal
 
 abbrev pub invariant-loop-i : goal.invariant-loop-i
-invariant-loop-i g l = map g.K.Kind.meaning (vec_items l.values) ≡ replicate l.-i (g.K.Kind.meaning l.start)
+invariant-loop-i g l = map g.K.Kind.meaning (vec_items l.values) ≡ replicate l._i (g.K.Kind.meaning l.start)

@@ -13,7 +13,7 @@ pub loop-n-preserved : goal.loop-n-preserved
 loop-n-preserved g c = λ plain.
     let before = c.loop-n.invariant plain in
     has_written_of_eq _ _ _ _ _ (answers_more c.args.self.now.0.now c.loop-n.n-index (omega arith))
-    (has_written_append _ _ _ _ _ _ before (c.in_ok-write.ensures.shows before.plain refl))
+    (has_written_append _ _ _ _ _ _ before (c.in_ok-write.ensures.writes before.plain refl))
 
 pub returns-clause-writes : goal.returns-clause-writes
 returns-clause-writes g c = λ plain ok.
