@@ -1,11 +1,11 @@
 // The program: it serves a script from a file or from standard input.
 #![tactic(auto)]
 
-use anyhow::anyhow;
 use desk::serve::serve;
 use std::env;
 use std::fs::File;
 use std::io::{BufRead, BufReader};
+use std::process::ExitCode;
 
 const HELP: &str = "carillon [FILE]
 
@@ -22,7 +22,7 @@ The status is 0, or 1 if a line was not understood or the script could not be
 read.
 ";
 
-fn main(rt: HostRuntime) -> anyhow::Result<()> {
+fn main(rt: HostRuntime) -> anyhow::Result<ExitCode> {
     let mut words = env::args(&rt)?;
     let _program = words.next();
     match (words.next(), words.next()) {
@@ -33,10 +33,10 @@ fn main(rt: HostRuntime) -> anyhow::Result<()> {
 }
 
 // Shows the help page, or serves the script in a file.
-fn run_named(rt: &HostRuntime, word: &str) -> anyhow::Result<()> {
+fn run_named(rt: &HostRuntime, word: &str) -> anyhow::Result<ExitCode> {
     if word == "--help" {
         rt.print(HELP)?;
-        return Ok(());
+        return Ok(ExitCode::SUCCESS);
     }
     match File::open(rt, word) {
         Ok(file) => run(rt, &mut BufReader::new(rt.alloc(), file)?),
@@ -44,12 +44,12 @@ fn run_named(rt: &HostRuntime, word: &str) -> anyhow::Result<()> {
     }
 }
 
-// Serves a script. The error that ends the program with status 1 says that it could not be read or that some line was not understood.
-fn run<R: BufRead>(rt: &HostRuntime, script: &mut R) -> anyhow::Result<()> {
+// Serves a script. The status is 1 where it could not be read or some line was not understood.
+fn run<R: BufRead>(rt: &HostRuntime, script: &mut R) -> anyhow::Result<ExitCode> {
     let mut out = rt.stdout();
     match serve(rt.alloc(), script, &mut out) {
-        Ok(totals) if totals.misunderstood == 0 => Ok(()),
-        Ok(_) => Err(anyhow!("some lines were not understood")),
+        Ok(totals) if totals.misunderstood == 0 => Ok(ExitCode::SUCCESS),
+        Ok(_) => Ok(ExitCode::FAILURE),
         Err(_) => fail(
             rt,
             "the script cannot be read, or its replies cannot be written",
@@ -57,8 +57,8 @@ fn run<R: BufRead>(rt: &HostRuntime, script: &mut R) -> anyhow::Result<()> {
     }
 }
 
-// Says on standard error what went wrong, and gives it as an error.
-fn fail(rt: &HostRuntime, message: &str) -> anyhow::Result<()> {
+// Says on standard error what went wrong, and gives the status for it.
+fn fail(rt: &HostRuntime, message: &str) -> anyhow::Result<ExitCode> {
     eprintln!(rt; "carillon: {message}")?;
-    Err(message.into())
+    Ok(ExitCode::FAILURE)
 }
