@@ -1,5 +1,5 @@
 -- What the tests of a call have told where it is not refused.
-use Rattle.protocol.proofs.Base.{◌≡◌, refl, ap, Bool, true, false, not, ◌||◌, List, [], ◌∷◌, ◌⊎◌, inl, inr, ℕ, ◌-◌, ◌^◌, ◌<◌, arith, length, leb-false, eqb-false, not-false, and_parts, true≢false, Option, Some, None, Result, Ok, Err, option_is_some, All}
+use Rattle.protocol.proofs.Base.{◌≡◌, refl, ap, Bool, true, false, not, ◌||◌, List, [], ◌∷◌, ◌⊎◌, inl, inr, ℕ, ◌-◌, ◌^◌, ◌<◌, arith, length, leb-false, eqb-false, not-false, and_parts, true≢false, Option, Some, None, Result, Ok, Err, option_is_some, AllByRecursion}
 use Rattle.protocol.specs.Rules.{Model, Entry, Phase, Joined, Closing, Split, Merging, when, first_of, late, Shape, State, row_at, Call, Take, Draw, Step, Acknowledge, Merge, Collect, AnnounceSplit, AnnounceMerging, Release, same_phase, all_acknowledged, left_over, runs, has_ended, good_split, refuse_text, tests}
 use Rattle.protocol.proofs.Places.{some_none}
 
@@ -18,7 +18,7 @@ none_is None h = refl
 none_is (Some x) h = absurd (true≢false h)
 
 -- no test found anything
-none_of : (ts : List (Option (List ℕ))) → first_of ts ≡ None → All (λ t. t ≡ None) ts
+none_of : (ts : List (Option (List ℕ))) → first_of ts ≡ None → AllByRecursion (λ t. t ≡ None) ts
 none_of [] h = tt
 none_of (None ∷ ts) h = (refl, none_of ts h)
 none_of (Some c ∷ ts) h = absurd (some_none c h)

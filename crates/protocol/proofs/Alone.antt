@@ -1,5 +1,5 @@
 -- Runs alone of the first entries of a transaction, and of all of them.
-use Rattle.protocol.proofs.Base.{◌≡◌, refl, sym, ap, subst, ◌∙◌, Bool, true, false, cond, ◌||◌, List, [], ◌∷◌, ◌++◌, append_assoc, append-nil, ℕ, zero, suc, ◌+◌, ◌≤◌, arith, leb, ℤ, lt_z, length, take, drop, length-take, take-append-drop, take_all, none-some, same_Some, All-weaker, leb-true, not_from_false, false≢true, Option, Some, None, option_is_some, All, nth}
+use Rattle.protocol.proofs.Base.{◌≡◌, refl, sym, ap, subst, ◌∙◌, Bool, true, false, cond, ◌||◌, List, [], ◌∷◌, ◌++◌, append_assoc, append-nil, ℕ, zero, suc, ◌+◌, ◌≤◌, arith, leb, ℤ, lt_z, length, take, drop, length-take, take-append-drop, take_all, none-some, same_Some, All-weaker, leb-true, not_from_false, false≢true, Option, Some, None, option_is_some, AllByRecursion, nth}
 use Rattle.protocol.specs.Rules.{Model, Action, Show, Need, Change, Entry, tells, falls_short, applied, short_at, Alone, ran as alone_ran, peek, Ran, after, serial, Transaction, verb_of, changes, looks}
 use Rattle.serial.proofs.Alone.{short_idle, runs_alone}
 use Rattle.serial.proofs.Steps.{follow, before_goes, before_stops}
@@ -73,7 +73,7 @@ module _ {M : Type 0} (k : Model M) (w : ℕ) where
 
   -- values that agree where the entries look give the same readings
   abbrev pub Agree : List Entry → List M → List M → Type 0
-  Agree es us vs = All (λ e. looks e ≡ true → nth us e.key ≡ nth vs e.key) es
+  Agree es us vs = AllByRecursion (λ e. looks e ≡ true → nth us e.key ≡ nth vs e.key) es
 
   agree_after : (e : Entry) (es : List Entry) (us vs : List M) → Agree es us vs → Agree es (after k w e e.action us) (after k w e e.action vs)
   agree_after e es us vs h = All-weaker _ _ (λ d g l. after_agrees e e.action us vs d.key (g l)) es h

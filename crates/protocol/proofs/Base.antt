@@ -8,7 +8,7 @@ pub use Rattle.std.proofs.lemmas.Option.{slice_get-get_or as nth_getD, slice_get
 pub use Rattle.std.proofs.lemmas.List.Sums.{get_or-le-sum_by, sum_by-append, sum_by-cons, sum_by_push, sum_by-set}
 pub use Rattle.std.proofs.lemmas.Bool.{and_from, and_parts, both_ways, cases_Bool, cases_eq, cases_lt, cases_order, cond_both, cond-false, cond-true, eq-eqb, eqb-false, eqb-true, false≢true, le-leb, leb-false, leb-true, ltb-false, ltb-true, ne_eqb, not-false, not_from_false, not_from_true, not-true, or_cases, or_left, or_parts, or_right, true≢false}
 pub use Rattle.std.proofs.lemmas.Bool.Decides.{nat_tests as tells}
-pub use Rattle.std.specs.List.{range_with_len as counting, sum_by, AllByRecursion as All, slice_get as nth}
+pub use Rattle.std.specs.List.{range_with_len as counting, sum_by, AllByRecursion, slice_get as nth}
 pub use Rattle.std.specs.Option.{is_some as option_is_some, option_map as mapped}
 pub use Rattle.std.specs.declared.option.Option.{Option}
 pub use Rattle.std.specs.declared.option.Option.TheVariants.{None, Some}

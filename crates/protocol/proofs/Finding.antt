@@ -1,5 +1,5 @@
 -- The first entry that a test finds, and entries in which the tests of a taking find nothing.
-use Rattle.protocol.proofs.Base.{◌≡◌, refl, Bool, true, false, cond, List, [], ◌∷◌, ℕ, suc, ◌+◌, ◌<◌, arith, take, none-some, same_Some, All-weaker, leb-false, not-false, Option, Some, None, All, nth}
+use Rattle.protocol.proofs.Base.{◌≡◌, refl, Bool, true, false, cond, List, [], ◌∷◌, ℕ, suc, ◌+◌, ◌<◌, arith, take, none-some, same_Some, All-weaker, leb-false, not-false, Option, Some, None, AllByRecursion, nth}
 use Rattle.protocol.specs.Rules.{Model, Entry, first_of, first_entry, at_entry, no_record, takes, not_taken, late}
 use Rattle.protocol.proofs.Places.{some_none, all_both}
 
@@ -11,7 +11,7 @@ module _ (test : Entry → Bool) where
     pub counted : j ≡ i + number
     pub there : nth es number ≡ Some entry
     pub passes : test entry ≡ true
-    pub before : All (λ e. test e ≡ false) (take number es)
+    pub before : AllByRecursion (λ e. test e ≡ false) (take number es)
 
   pub found : (i : ℕ) (es : List Entry) (j : ℕ) → first_entry test i es ≡ Some j → Found i es j
   found i [] j h = absurd (none-some j h)
@@ -23,21 +23,21 @@ module _ (test : Entry → Bool) where
           let r = rest p in
           record { number = suc r.number; entry = r.entry; counted = omega arith; there = r.there; passes = r.passes; before = (t, r.before) }
 
-  pub not_found : (i : ℕ) (es : List Entry) → first_entry test i es ≡ None → All (λ e. test e ≡ false) es
+  pub not_found : (i : ℕ) (es : List Entry) → first_entry test i es ≡ None → AllByRecursion (λ e. test e ≡ false) es
   not_found i [] h = tt
   not_found i (e ∷ es) h = go (test e) refl h (not_found (suc i) es)
     where
-      go : (b : Bool) → test e ≡ b → cond b (Some i) (first_entry test (suc i) es) ≡ None → (first_entry test (suc i) es ≡ None → All (λ d. test d ≡ false) es)
-          → (test e ≡ false) × All (λ d. test d ≡ false) es
+      go : (b : Bool) → test e ≡ b → cond b (Some i) (first_entry test (suc i) es) ≡ None → (first_entry test (suc i) es ≡ None → AllByRecursion (λ d. test d ≡ false) es)
+          → (test e ≡ false) × AllByRecursion (λ d. test d ≡ false) es
       go true t p rest = absurd (some_none i p)
       go false t p rest = (t, rest p)
 
 -- entries that passed the tests of a taking have records, and the kind takes them
-pub admitted : {M : Type 0} (k : Model M) (keys w : ℕ) (es : List Entry) → late k keys w es ≡ None → All (λ e. (e.key < keys) × (takes k w e e.action ≡ true)) es
+pub admitted : {M : Type 0} (k : Model M) (keys w : ℕ) (es : List Entry) → late k keys w es ≡ None → AllByRecursion (λ e. (e.key < keys) × (takes k w e e.action ≡ true)) es
 admitted k keys w es h = go (first_entry (no_record keys) 0 es) refl (first_entry (not_taken k w) 0 es) refl h
   where
     go : (a : Option ℕ) → first_entry (no_record keys) 0 es ≡ a → (b : Option ℕ) → first_entry (not_taken k w) 0 es ≡ b → first_of (at_entry 10 a ∷ at_entry 11 b ∷ []) ≡ None
-        → All (λ e. (e.key < keys) × (takes k w e e.action ≡ true)) es
+        → AllByRecursion (λ e. (e.key < keys) × (takes k w e e.action ≡ true)) es
     go (Some i) p b q h = absurd (some_none _ h)
     go None p (Some i) q h = absurd (some_none _ h)
     go None p None q h =

@@ -1,5 +1,5 @@
 -- What a turn of one worker leaves of the others, and what it has to show for itself.
-use Rattle.protocol.proofs.Base.{◌≡◌, refl, sym, ap, ◌∙◌, true, false, List, ◌++◌, ℕ, ◌≤◌, ◌<◌, arith, leb, length, set, All-weaker, and_from, le-leb, Option, Some, All, nth}
+use Rattle.protocol.proofs.Base.{◌≡◌, refl, sym, ap, ◌∙◌, true, false, List, ◌++◌, ℕ, ◌≤◌, ◌<◌, arith, leb, length, set, All-weaker, and_from, le-leb, Option, Some, AllByRecursion, nth}
 use Rattle.protocol.specs.Rules.{Model, Note, Phase, Joined, Closing, Split, Merging, SplitItem, Stage, Running, Locking, Checking, Writing, Sharding, Ended, Stamp, Transaction, Row, Shape, State, idle, row_at, stamp_at, split_in, is_split, Moved, put_back, Event, World, writes, holds_at, holds}
 use Rattle.protocol.proofs.Alone.{Agree, gives_agrees}
 use Rattle.protocol.proofs.Invariant.{Past, Ready, Faithful, StageOk, HandOk, MergedOk, RowOk, ValuesOk, ideal, Kept, Inv}
@@ -78,7 +78,7 @@ module _ {M : Type 0} (k : Model M) (sh : Shape) (start : List M) (x : World M) 
     pub locked : (key j : ℕ) → (j ≡ w → ⊥) → (stamp_at s.stamps key).owner ≡ Some j → (stamp_at ss key).version ≡ (stamp_at s.stamps key).version
     pub past : Past k sh start (x.events ++ new) ticket place
     pub hand : (t : Transaction) → r.current ≡ Some t → HandOk k sh ls ss table (x.events ++ new) w t
-    pub stash : All (Ready k sh (x.events ++ new) w) r.stash
+    pub stash : AllByRecursion (Ready k sh (x.events ++ new) w) r.stash
     pub merged : MergedOk k sh s.phase (length s.split) r
     pub values : ValuesOk k sh after.state table (ideal k sh start (x.events ++ new))
 
@@ -110,7 +110,7 @@ module _ {M : Type 0} (k : Model M) (sh : Shape) (start : List M) (x : World M) 
 
     -- a turn that leaves the table and the versions
     pub moves_row : table ≡ x.table → length ss ≡ length s.stamps → ((key : ℕ) → (stamp_at ss key).version ≡ (stamp_at s.stamps key).version) → s.place ≤ place → Past k sh start (x.events ++ new) ticket place
-        → ((t : Transaction) → r.current ≡ Some t → HandOk k sh ls ss table (x.events ++ new) w t) → All (Ready k sh (x.events ++ new) w) r.stash → MergedOk k sh s.phase (length s.split) r
+        → ((t : Transaction) → r.current ≡ Some t → HandOk k sh ls ss table (x.events ++ new) w t) → AllByRecursion (Ready k sh (x.events ++ new) w) r.stash → MergedOk k sh s.phase (length s.split) r
         → ValuesOk k sh after.state table (ideal k sh start (x.events ++ new)) → Kept k sh start after
     moves_row same len versions low past hand stash merged values = moves (record {
       table_len = ap length same;

@@ -1,5 +1,5 @@
 -- Turns that change one row and nothing else: taking, drawing, collecting, acknowledging.
-use Rattle.protocol.proofs.Base.{◌≡◌, refl, sym, ap, subst, ◌∙◌, true, false, and-false, ◌&&◌, List, [], ◌∷◌, ◌++◌, ◌⊎◌, inl, inr, ℕ, suc, ◌≤◌, ◌<◌, arith, eqb, length, none-some, same_Some, nth_seam, All-weaker, ltb-false, false≢true, Option, Some, None, option_is_some, Ok, All}
+use Rattle.protocol.proofs.Base.{◌≡◌, refl, sym, ap, subst, ◌∙◌, true, false, and-false, ◌&&◌, List, [], ◌∷◌, ◌++◌, ◌⊎◌, inl, inr, ℕ, suc, ◌≤◌, ◌<◌, arith, eqb, length, none-some, same_Some, nth_seam, All-weaker, ltb-false, false≢true, Option, Some, None, option_is_some, Ok, AllByRecursion}
 use Rattle.protocol.specs.Rules.{Model, ReadAs, Entry, Phase, Joined, Closing, Split, Merging, SplitItem, Stage, Running, Locking, Checking, Writing, Sharding, Ended, late, Transaction, Shape, State, Row, row_at, end_of, begin, with_current, split_in, Taking, Event, Taken, left_over, drawn, acknowledging, has_ended, World}
 use Rattle.protocol.proofs.Frames.{ready_longer, after, moves}
 use Rattle.protocol.proofs.Invariant.{Past, Ready, HandOk, MergedOk, pending_at, pending, ideal, Kept, Inv}
@@ -21,7 +21,7 @@ module _ {M : Type 0} (k : Model M) (sh : Shape) (start : List M) (x : World M) 
   abbrev To : Row → List Event → ℕ → Type 0
   To r new ticket = Kept k sh start (after k sh start x w ticket s.place s.stamps r x.table new)
 
-  stash_longer : (new : List Event) → All (Ready k sh (x.events ++ new) w) row.stash
+  stash_longer : (new : List Event) → AllByRecursion (Ready k sh (x.events ++ new) w) row.stash
   stash_longer new = All-weaker _ _ (ready_longer k sh x.events new w) row.stash (inv.kept.rows w).stash
 
   -- a transaction that begins
@@ -49,7 +49,7 @@ module _ {M : Type 0} (k : Model M) (sh : Shape) (start : List M) (x : World M) 
   pub draws_ok : row.current ≡ None → (s.phase ≡ Joined) ⊎ (s.phase ≡ Closing) → To (drawn row row.stash) [] s.ticket
   draws_ok empty phase = go row.stash (stash_longer [])
     where
-      go : (ts : List Transaction) → All (Ready k sh (x.events ++ []) w) ts → To (drawn row ts) [] s.ticket
+      go : (ts : List Transaction) → AllByRecursion (Ready k sh (x.events ++ []) w) ts → To (drawn row ts) [] s.ticket
       go [] ready = stays_owing k sh start x inv w s.stamps row inside refl (λ key. refl) (nothing row.current empty) (stash_longer []) (inv.kept.rows w).merged refl (λ key. refl)
       go (t ∷ ts) ready =
           stays_owing k sh start x inv w s.stamps (drawn row (t ∷ ts)) inside refl (λ key. refl) (begins [] t ready.0) ready.1 (unmerged s.phase _ refl (λ m. absurd (grind arith)) (inv.kept.rows w).merged) refl (λ key. ap (pending k sh ls w key) (sym empty))

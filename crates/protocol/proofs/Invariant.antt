@@ -1,5 +1,5 @@
 -- What holds of every world that turns lead to.
-use Rattle.protocol.proofs.Base.{◌≡◌, true, false, cond, ◌||◌, List, [], ◌++◌, map, ℕ, zero, suc, ◌+◌, ◌*◌, ◌≤◌, ◌<◌, leb, ℤ, length, take, drop, Option, Some, None, Ok, counting, mapped, All, sum_by, nth}
+use Rattle.protocol.proofs.Base.{◌≡◌, true, false, cond, ◌||◌, List, [], ◌++◌, map, ℕ, zero, suc, ◌+◌, ◌*◌, ◌≤◌, ◌<◌, leb, ℤ, length, take, drop, Option, Some, None, Ok, counting, mapped, AllByRecursion, sum_by, nth}
 use Rattle.protocol.specs.Rules.{Model, Operation, ReadAs, Entry, Note, Phase, Joined, Closing, Split, Merging, SplitItem, Stage, Running, Locking, Checking, Writing, Sharding, Ended, Stamp, late, Transaction, Row, Shape, State, row_at, stamp_at, place_of, looks, ops_on, apply_all, split_in, is_split, strays, sharded, is_noted, shard_at, Taking, Placing, Event, Taken, Placed, good_from, takings, placings, World, values_by, readings_by, SameSlip, readings_of, writes, Sound, in_rows}
 use Rattle.protocol.proofs.Alone.{Finished, Gives}
 use Rattle.protocol.specs.State.{ran}
@@ -45,9 +45,9 @@ module _ {M : Type 0} (k : Model M) (sh : Shape) where
   module _ (ls : List SplitItem) where
     -- what it has read so far is what its entries give on the values as they are, unless a noted version has changed
     pub record ReadsRight (ss : List Stamp) (table : List M) (w : ℕ) (es : List Entry) (noted : List Note) (answers : List ℤ) (skipped : Option ℕ) : Type 0 where
-      pub covers : All (λ e. looks e ≡ true → is_noted noted e.key ≡ true) es
-      pub bounds : All (λ (n : Note). (n.key < sh.keys) × (n.version ≤ (stamp_at ss n.key).version) × (is_split ls n.key ≡ false)) noted
-      pub agrees : All (λ (n : Note). (stamp_at ss n.key).version ≡ n.version) noted → Gives k w es table answers skipped
+      pub covers : AllByRecursion (λ e. looks e ≡ true → is_noted noted e.key ≡ true) es
+      pub bounds : AllByRecursion (λ (n : Note). (n.key < sh.keys) × (n.version ≤ (stamp_at ss n.key).version) × (is_split ls n.key ≡ false)) noted
+      pub agrees : AllByRecursion (λ (n : Note). (stamp_at ss n.key).version ≡ n.version) noted → Gives k w es table answers skipped
 
     abbrev pub Faithful : List Stamp → List M → ℕ → Transaction → Type 0
     Faithful ss table w t = ReadsRight ss table w (ran t) t.noted t.answers t.skipped
@@ -64,7 +64,7 @@ module _ {M : Type 0} (k : Model M) (sh : Shape) where
     pub record HandOk (ss : List Stamp) (table : List M) (events : List Event) (w : ℕ) (t : Transaction) : Type 0 where
       pub ready : Ready events w t
       -- on split records only the chosen operation has run
-      pub chosen : All (λ e. strays ls e ≡ false) (ran t)
+      pub chosen : AllByRecursion (λ e. strays ls e ≡ false) (ran t)
       pub placed : (p : ℕ) → place_of t.stage ≡ Some p → HasPlace events w t p
       pub stage : StageOk ss table w t t.stage
 
@@ -77,7 +77,7 @@ module _ {M : Type 0} (k : Model M) (sh : Shape) where
 
   pub record RowOk (s : State) (table : List M) (events : List Event) (w : ℕ) (r : Row) : Type 0 where
     pub hand : (t : Transaction) → r.current ≡ Some t → HandOk (split_in s.phase s.split) s.stamps table events w t
-    pub stash : All (Ready events w) r.stash
+    pub stash : AllByRecursion (Ready events w) r.stash
     pub merged : MergedOk s.phase (length s.split) r
 
   -- ---- values: those of the serial run are the table's with all that is owed to it
@@ -112,7 +112,7 @@ module _ {M : Type 0} (k : Model M) (sh : Shape) where
   pub record ShardOk (table : List M) (os : List Operation) (w i : ℕ) (l : SplitItem) : Type 0 where
     pub base : M
     pub holds : nth table (shard_at sh.keys w i) ≡ Some (apply_all k os ((k.rule l.part l.verb).fresh base))
-    pub fit : All (Fits l) os
+    pub fit : AllByRecursion (Fits l) os
 
   pub record ValuesOk (s : State) (table ideal : List M) : Type 0 where
     pub ops : ℕ → ℕ → List Operation

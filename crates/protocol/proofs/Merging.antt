@@ -1,5 +1,5 @@
 -- A worker merges its next shard.
-use Rattle.protocol.proofs.Base.{◌≡◌, refl, sym, ap, subst, ◌∙◌, Bool, true, false, cond, ◌&&◌, List, [], ◌++◌, append-nil, ◌⊎◌, inl, inr, ℕ, suc, ◌<◌, arith, eqb, length, nth_within, All-weaker, get_or_past, nth_getD, nth_past, cases_eq, cond_both, cond-true, cond-false, true≢false, tells, Option, Some, None, option_is_some, mapped, All, nth}
+use Rattle.protocol.proofs.Base.{◌≡◌, refl, sym, ap, subst, ◌∙◌, Bool, true, false, cond, ◌&&◌, List, [], ◌++◌, append-nil, ◌⊎◌, inl, inr, ℕ, suc, ◌<◌, arith, eqb, length, nth_within, All-weaker, get_or_past, nth_getD, nth_past, cases_eq, cond_both, cond-true, cond-false, true≢false, tells, Option, Some, None, option_is_some, mapped, AllByRecursion, nth}
 use Rattle.protocol.specs.Rules.{Model, Laws, Operation, modify, Merging, SplitItem, Stamp, Transaction, Shape, State, Row, idle, row_at, stamp_at, split_in, find_split, is_split, apply_all, shard_at, merging, revised, revise, merge_shard, merge_item, World, holds}
 use Rattle.protocol.proofs.Commuting.{apply_first, merge_all}
 use Rattle.protocol.proofs.Frames.{ready_longer, after, moves}
@@ -93,7 +93,7 @@ module _ {M : Type 0} (k : Model M) (laws : Laws k) (sh : Shape) (start : List M
         let clear : gone w l.key ≡ true = grind (arith, tells) in
         let first = r.first ∙ ap (λ (z : List Operation). r.before ++ (z ++ r.behind)) (ap (λ o. os ++ pending k sh ls w l.key o) empty ∙ append-nil os) in
         let second = r.second ∙ (λ n. r.before ++ (cond (clear n) [] os ++ pending k sh ls w l.key (((row_after w).0 ∙ empty) n) ++ r.behind)) in
-        let fit = subst (All (Fits k sh l)) first (fits_owed k sh start x inv l.key row.merged l found sh.workers (omega arith)) in
+        let fit = subst (AllByRecursion (Fits k sh l)) first (fits_owed k sh start x inv l.key row.merged l found sh.workers (omega arith)) in
         let v = nth_there x.table l.key (omega (arith, good.inside, inv.kept.sized.table_len)) in
         let a = apply_first k laws sh l good.splits r.before os r.behind v.0 fit in
         let m = merge_all k laws sh l good.splits os shard.base v.0 shard.fit in

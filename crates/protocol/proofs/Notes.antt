@@ -1,5 +1,5 @@
 -- Noted versions, and the check that finds none of them stale.
-use Rattle.protocol.proofs.Base.{◌≡◌, refl, ap, subst, ◌∙◌, Bool, true, false, cond, not, ◌&&◌, ◌||◌, List, [], ◌∷◌, ◌++◌, ◌⊎◌, inl, inr, ℕ, arith, eqb, All-push, cond_both, or_cases, or_left, or_right, eqb-true, eq-eqb, false≢true, tells, Option, Some, None, option_is_some, All}
+use Rattle.protocol.proofs.Base.{◌≡◌, refl, ap, subst, ◌∙◌, Bool, true, false, cond, not, ◌&&◌, ◌||◌, List, [], ◌∷◌, ◌++◌, ◌⊎◌, inl, inr, ℕ, arith, eqb, All-push, cond_both, or_cases, or_left, or_right, eqb-true, eq-eqb, false≢true, tells, Option, Some, None, option_is_some, AllByRecursion}
 use Rattle.protocol.specs.Rules.{Note, Stamp, stamp_at, owned_by, locked_out, is_noted, note, stale, first_conflict}
 use Rattle.protocol.proofs.Places.{some_none}
 
@@ -13,16 +13,16 @@ module _ (ss : List Stamp) (w : ℕ) where
   abbrev pub Current : Note → Type 0
   Current n = ((stamp_at ss n.key).version ≡ n.version) × (locked_out ss w n.key ≡ false)
 
-  pub no_conflict : (ns : List Note) → first_conflict ss w ns ≡ None → All Current ns
+  pub no_conflict : (ns : List Note) → first_conflict ss w ns ≡ None → AllByRecursion Current ns
   no_conflict [] h = tt
   no_conflict (n ∷ ns) h = go (stale ss w n) refl h (no_conflict ns)
     where
-      go : (b : Bool) → stale ss w n ≡ b → cond b (Some n.key) (first_conflict ss w ns) ≡ None → (first_conflict ss w ns ≡ None → All Current ns) → Current n × All Current ns
+      go : (b : Bool) → stale ss w n ≡ b → cond b (Some n.key) (first_conflict ss w ns) ≡ None → (first_conflict ss w ns ≡ None → AllByRecursion Current ns) → Current n × AllByRecursion Current ns
       go true t p rest = absurd (some_none n.key p)
       go false t p rest = ((eqb-true (stamp_at ss n.key).version n.version (grind arith), grind arith), rest p)
 
 -- what holds of all notes holds of that on a noted key
-pub noted_has : (P : Note → Type 0) (ns : List Note) (key : ℕ) → All P ns → is_noted ns key ≡ true → (version : ℕ) × P (record { key = key; version = version })
+pub noted_has : (P : Note → Type 0) (ns : List Note) (key : ℕ) → AllByRecursion P ns → is_noted ns key ≡ true → (version : ℕ) × P (record { key = key; version = version })
 noted_has P [] key a h = absurd (false≢true h)
 noted_has P (n ∷ ns) key a h = elim (or_cases (eqb n.key key) (is_noted ns key) h) [
   | inl p ↦ (n.version, subst (λ j. P (record { key = j; version = n.version })) (eqb-true n.key key p) a.0)
@@ -41,5 +41,5 @@ module _ (ns : List Note) (key version : ℕ) where
   pub note_notes : is_noted (note ns key version) key ≡ true
   note_notes = cond_both (is_noted ns key) ns _ (λ ms. is_noted ms key ≡ true) (λ t. t) (λ t. noted_append ns _ key ∙ or_right (is_noted ns key) (eqb key key) (eq-eqb key key refl))
 
-  pub note_all : (P : Note → Type 0) → All P ns → P (record { key = key; version = version }) → All P (note ns key version)
-  note_all P a p = cond_both (is_noted ns key) ns _ (All P) (λ t. a) (λ t. All-push P ns _ a p)
+  pub note_all : (P : Note → Type 0) → AllByRecursion P ns → P (record { key = key; version = version }) → AllByRecursion P (note ns key version)
+  note_all P a p = cond_both (is_noted ns key) ns _ (AllByRecursion P) (λ t. a) (λ t. All-push P ns _ a p)

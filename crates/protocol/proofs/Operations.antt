@@ -1,5 +1,5 @@
 -- The operations of entries on one key, and what they make of its value.
-use Rattle.protocol.proofs.Base.{◌≡◌, refl, sym, ap, ◌∙◌, Bool, true, false, cond, List, [], ◌∷◌, ◌++◌, append_assoc, ℕ, arith, eqb, length, take, drop, take-append-drop, nth_drop, drop-drop, eqb-true, eqb-false, cond_both, true≢false, tells, Option, Some, None, option_is_some, mapped, All, nth}
+use Rattle.protocol.proofs.Base.{◌≡◌, refl, sym, ap, ◌∙◌, Bool, true, false, cond, List, [], ◌∷◌, ◌++◌, append_assoc, ℕ, arith, eqb, length, take, drop, take-append-drop, nth_drop, drop-drop, eqb-true, eqb-false, cond_both, true≢false, tells, Option, Some, None, option_is_some, mapped, AllByRecursion, nth}
 use Rattle.protocol.specs.Rules.{Model, Operation, Action, Show, Need, Change, Entry, applied, modify, after, SplitItem, verb_of, changes, action_ops, ops_of, ops_on, apply_all, is_split, sharded, next_shard, writes}
 use Rattle.protocol.proofs.Finding.{found, not_found}
 use Rattle.protocol.proofs.Places.{nth_modify, nth_modify_other, length_modify, mapped_id, mapped_mapped, mapped_same}
@@ -34,7 +34,7 @@ module _ (w key : ℕ) where
         cc
 
     -- entries with no operation on any split key
-    no_shards : (es : List Entry) → is_split ls key ≡ true → All (λ e. sharded ls e ≡ false) es → ops_on w key es ≡ []
+    no_shards : (es : List Entry) → is_split ls key ≡ true → AllByRecursion (λ e. sharded ls e ≡ false) es → ops_on w key es ≡ []
     no_shards [] s h = refl
     no_shards (e ∷ es) s h =
         let a : op_on e ≡ [] = no_op e (λ c d. let t : is_split ls e.key ≡ true = ap (is_split ls) d ∙ s in let u = h.0 in grind (arith, tells)) in

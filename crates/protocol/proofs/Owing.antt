@@ -1,5 +1,5 @@
 -- What is owed to a record: by whom, and what stays owed where a turn changes one row.
-use Rattle.protocol.proofs.Base.{◌≡◌, refl, sym, ap, subst, ◌∙◌, Bool, true, false, List, [], ◌++◌, append-nil, append_assoc, inl, inr, ℕ, zero, suc, ◌≤◌, ◌<◌, arith, cases_eq, cases_Bool, length, Option, Some, All, mapped, nth}
+use Rattle.protocol.proofs.Base.{◌≡◌, refl, sym, ap, subst, ◌∙◌, Bool, true, false, List, [], ◌++◌, append-nil, append_assoc, inl, inr, ℕ, zero, suc, ◌≤◌, ◌<◌, arith, cases_eq, cases_Bool, length, Option, Some, AllByRecursion, mapped, nth}
 use Rattle.protocol.specs.Rules.{Model, Operation, SplitItem, Stamp, Transaction, Row, Shape, State, row_at, stamp_at, apply_all, split_in, is_split, shard_at, Event, World, holds}
 use Rattle.protocol.proofs.Frames.{after, each_row, moves_row}
 use Rattle.protocol.proofs.Invariant.{Past, Ready, HandOk, MergedOk, pending, owed, gathered, ValuesOk, ideal, Kept, Inv}
@@ -102,13 +102,13 @@ module _ {M : Type 0} (k : Model M) (sh : Shape) (start : List M) (x : World M) 
 
     -- a turn that changes the row and the owners of locks at most, after which the worker owes what it owed
     pub keeps_owing : length ss ≡ length s.stamps → ((key : ℕ) → (stamp_at ss key).version ≡ (stamp_at s.stamps key).version) → s.place ≤ place → Past k sh start (x.events ++ new) ticket place
-        → ideal k sh start (x.events ++ new) ≡ ideal k sh start x.events → ((t : Transaction) → r.current ≡ Some t → HandOk k sh ls ss x.table (x.events ++ new) w t) → All (Ready k sh (x.events ++ new) w) r.stash
+        → ideal k sh start (x.events ++ new) ≡ ideal k sh start x.events → ((t : Transaction) → r.current ≡ Some t → HandOk k sh ls ss x.table (x.events ++ new) w t) → AllByRecursion (Ready k sh (x.events ++ new) w) r.stash
         → MergedOk k sh s.phase (length s.split) r → r.merged ≡ (row_at s.rows w).merged → ((key : ℕ) → pending k sh ls w key r.current ≡ pending k sh ls w key (row_at s.rows w).current) → Kept k sh start x'
     keeps_owing len versions low past same hand stash fine merged owes =
         moves_row k sh start x w ticket place ss r x.table new inv inside refl len versions low past hand stash fine (values_stay owes merged same)
 
   -- and after which nothing has happened
   pub stays_owing : (w : ℕ) (ss : List Stamp) (r : Row) (inside : w < sh.workers) → length ss ≡ length s.stamps → ((key : ℕ) → (stamp_at ss key).version ≡ (stamp_at s.stamps key).version)
-      → ((t : Transaction) → r.current ≡ Some t → HandOk k sh ls ss x.table (x.events ++ []) w t) → All (Ready k sh (x.events ++ []) w) r.stash → MergedOk k sh s.phase (length s.split) r
+      → ((t : Transaction) → r.current ≡ Some t → HandOk k sh ls ss x.table (x.events ++ []) w t) → AllByRecursion (Ready k sh (x.events ++ []) w) r.stash → MergedOk k sh s.phase (length s.split) r
       → r.merged ≡ (row_at s.rows w).merged → ((key : ℕ) → pending k sh ls w key r.current ≡ pending k sh ls w key (row_at s.rows w).current) → Kept k sh start (after k sh start x w s.ticket s.place ss r x.table [])
   stays_owing w ss r inside len versions = keeps_owing w s.ticket s.place ss r [] inside len versions (omega arith) (past_none k sh start x.events s.ticket s.place inv.kept.past) (ideal_none k sh start x.events)

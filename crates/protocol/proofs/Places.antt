@@ -1,5 +1,5 @@
 -- Lists by place: one element changed, the front, and elements of joined lists.
-use Rattle.protocol.proofs.Base.{◌≡◌, refl, sym, ap, ◌∙◌, List, [], ◌∷◌, ◌++◌, ◌⊎◌, inl, inr, ℕ, zero, suc, ◌<◌, arith, length, get_or, set, take, drop, none-some, same_Some, nth_within, nth_left, get_or-set_same, get_or-set_other, cases_eq, Option, Some, None, mapped, All, nth}
+use Rattle.protocol.proofs.Base.{◌≡◌, refl, sym, ap, ◌∙◌, List, [], ◌∷◌, ◌++◌, ◌⊎◌, inl, inr, ℕ, zero, suc, ◌<◌, arith, length, get_or, set, take, drop, none-some, same_Some, nth_within, nth_left, get_or-set_same, get_or-set_other, cases_eq, Option, Some, None, mapped, AllByRecursion, nth}
 use Rattle.protocol.specs.Rules.{modify}
 
 module _ {A : Type 0} where
@@ -98,7 +98,7 @@ module _ {A : Type 0} where
   drop_one_more (y ∷ xs) (suc n) x h = drop_one_more xs n x h
 
   -- what holds of all elements holds of each
-  pub all_nth : (P : A → Type 0) (xs : List A) (i : ℕ) (x : A) → All P xs → nth xs i ≡ Some x → P x
+  pub all_nth : (P : A → Type 0) (xs : List A) (i : ℕ) (x : A) → AllByRecursion P xs → nth xs i ≡ Some x → P x
   all_nth P [] i x a h = absurd (none-some x h)
   all_nth P (y ∷ xs) zero x a h = let e = same_Some y x h in rw (← e) a.0
   all_nth P (y ∷ xs) (suc i) x a h = all_nth P xs i x a.1 h
@@ -110,7 +110,7 @@ module _ {A : Type 0} where
     | inr e ↦ rw (get_or-set_other xs w j r d e) (there j e)
   ]
 
-  pub all_both : (P Q : A → Type 0) (xs : List A) → All P xs → All Q xs → All (λ x. P x × Q x) xs
+  pub all_both : (P Q : A → Type 0) (xs : List A) → AllByRecursion P xs → AllByRecursion Q xs → AllByRecursion (λ x. P x × Q x) xs
   all_both P Q [] p q = tt
   all_both P Q (x ∷ xs) p q = ((p.0, q.0), all_both P Q xs p.1 q.1)
 

@@ -1,5 +1,5 @@
 -- One entry more: what a transaction has read holds good, and what it does next.
-use Rattle.protocol.proofs.Base.{◌≡◌, refl, sym, ap, subst, subst₂, ◌∙◌, Bool, true, false, cond, List, [], ◌∷◌, ◌++◌, ℕ, suc, ◌≤◌, ◌<◌, arith, length, same_Some, none-some, nth_within, All-push, All-take, All-weaker, length-take-le, take_at, cond_both, cond-true, or_parts, tells, Option, Some, None, option_is_some, All, nth}
+use Rattle.protocol.proofs.Base.{◌≡◌, refl, sym, ap, subst, subst₂, ◌∙◌, Bool, true, false, cond, List, [], ◌∷◌, ◌++◌, ℕ, suc, ◌≤◌, ◌<◌, arith, length, same_Some, none-some, nth_within, All-push, All-take, All-weaker, length-take-le, take_at, cond_both, cond-true, or_parts, tells, Option, Some, None, option_is_some, AllByRecursion, nth}
 use Rattle.protocol.specs.Rules.{Model, Entry, applied, falls_short, Note, Running, Locking, Checking, SplitItem, Stage, Stamp, Transaction, Shape, stamp_at, place_of, at_stage, looks, find_split, is_split, strays_from, strays, next_target, or_stage, after_running, is_noted, note, one_more, has_run, noting, reading, Event}
 use Rattle.serial.specs.Alone.{tells as told}
 use Rattle.protocol.proofs.Alone.{Finished, Gives, gives_more}
@@ -15,9 +15,9 @@ looks_unsplit : (e : Entry) (o : Option (ℕ × SplitItem)) → strays_from e o 
 looks_unsplit e o s l = grind arith
 
 -- what holds of all noted versions holds of those before
-noted_before : (P : Note → Type 0) (ns : List Note) (key version : ℕ) → All P (note ns key version) → All P ns
-noted_before P ns key version = cond_both (is_noted ns key) ns (ns ++ (record { key = key; version = version } ∷ [])) (λ ms. All P ms → All P ns) (λ t a. a)
-    (λ t a. subst (All P) (take_at ns _ (length ns) refl) (All-take P (length ns) _ a))
+noted_before : (P : Note → Type 0) (ns : List Note) (key version : ℕ) → AllByRecursion P (note ns key version) → AllByRecursion P ns
+noted_before P ns key version = cond_both (is_noted ns key) ns (ns ++ (record { key = key; version = version } ∷ [])) (λ ms. AllByRecursion P ms → AllByRecursion P ns) (λ t a. a)
+    (λ t a. subst (AllByRecursion P) (take_at ns _ (length ns) refl) (All-take P (length ns) _ a))
 
 module _ {M : Type 0} (k : Model M) (sh : Shape) (ls : List SplitItem) (w : ℕ) where
   -- a transaction that has no place owes nothing
@@ -29,7 +29,7 @@ module _ {M : Type 0} (k : Model M) (sh : Shape) (ls : List SplitItem) (w : ℕ)
     abbrev pub Early : Transaction → Type 0
     Early t = HandOk k sh ls ss table events w t × (place_of t.stage ≡ None)
 
-    module _ (t : Transaction) (ready : Ready k sh events w t) (chosen : All (λ e. strays ls e ≡ false) (ran t)) where
+    module _ (t : Transaction) (ready : Ready k sh events w t) (chosen : AllByRecursion (λ e. strays ls e ≡ false) (ran t)) where
       pub early : (g : Stage) → place_of g ≡ None → StageOk k sh ls ss table w t g → Early (at_stage t g)
       early g unplaced ok = (record { ready = ready; chosen = chosen; placed = λ p e. absurd (none-some p (sym unplaced ∙ e)); stage = ok }, unplaced)
 
@@ -43,7 +43,7 @@ module _ {M : Type 0} (k : Model M) (sh : Shape) (ls : List SplitItem) (w : ℕ)
 
     -- one entry more
     module _ (t : Transaction) (e : Entry) (next : nth t.entries t.done ≡ Some e) (fits : strays ls e ≡ false) (ready : Ready k sh events w t)
-        (chosen : All (λ e. strays ls e ≡ false) (ran t)) (faithful : Faithful k sh ls ss table w t) (going : t.skipped ≡ None) where
+        (chosen : AllByRecursion (λ e. strays ls e ≡ false) (ran t)) (faithful : Faithful k sh ls ss table w t) (going : t.skipped ≡ None) where
       -- the values that it reads, and what the transaction becomes
       abbrev values : List M
       values = applied k w (ran t) table
@@ -57,8 +57,8 @@ module _ {M : Type 0} (k : Model M) (sh : Shape) (ls : List SplitItem) (w : ℕ)
       ran_more : ran more ≡ ran t ++ (e ∷ [])
       ran_more = take_one_more t.entries t.done e next
 
-      all_ran : (P : Entry → Type 0) → All P (ran t) → P e → All P (ran more)
-      all_ran P a p = subst (All P) (sym ran_more) (All-push P (ran t) e a p)
+      all_ran : (P : Entry → Type 0) → AllByRecursion P (ran t) → P e → AllByRecursion P (ran more)
+      all_ran P a p = subst (AllByRecursion P) (sym ran_more) (All-push P (ran t) e a p)
 
       -- the notes are those before, or with one more if the entry looks
       noted_by : (P : List Note → Type 0) → P t.noted → (looks e ≡ true → P (note t.noted e.key version)) → P (noting ss t e)
@@ -69,12 +69,12 @@ module _ {M : Type 0} (k : Model M) (sh : Shape) (ls : List SplitItem) (w : ℕ)
         covers = all_ran (λ d. looks d ≡ true → is_noted (noting ss t e) d.key ≡ true)
             (All-weaker _ _ (λ d c l. noted_by (λ ns. is_noted ns d.key ≡ true) (c l) (λ _. note_keeps t.noted e.key version d.key (c l))) (ran t) faithful.covers)
             (λ l. ap (λ ns. is_noted ns e.key) (cond-true (looks e) (note t.noted e.key version) t.noted l) ∙ note_notes t.noted e.key version);
-        bounds = noted_by (All _) faithful.bounds (λ l. note_all t.noted e.key version _ faithful.bounds
+        bounds = noted_by (AllByRecursion _) faithful.bounds (λ l. note_all t.noted e.key version _ faithful.bounds
             ((all_nth _ t.entries t.done e (admitted k sh.keys w t.entries ready.1) next).0, omega arith, looks_unsplit e (find_split 0 ls e.key) fits l));
         agrees = λ same. subst₂ (λ es n. Gives k w es table more.answers (cond (falls_short k e e.action values) (Some n) None))
             (sym ran_more) (length-take-le t.done t.entries (omega (arith, nth_within t.entries t.done e next)))
             (gives_more k w (ran t) e table t.answers (subst (Gives k w (ran t) table t.answers) going
-            (faithful.agrees (noted_by (λ ns. All _ ns → All _ t.noted) (λ a. a) (λ l. noted_before _ t.noted e.key version) same))));
+            (faithful.agrees (noted_by (λ ns. AllByRecursion _ ns → AllByRecursion _ t.noted) (λ a. a) (λ l. noted_before _ t.noted e.key version) same))));
       }
 
       pub reads_on : Early (reading k ls w ss values t e)

@@ -1,5 +1,5 @@
 -- Steps before the check: an entry runs or is stashed, a record is locked, or the transaction meets a conflict.
-use Rattle.protocol.proofs.Base.{◌≡◌, refl, sym, ap, subst, ◌∙◌, true, false, ◌&&◌, List, [], ◌∷◌, ◌++◌, append-nil, map, ℕ, zero, suc, ◌<◌, arith, ltb, length, same_Some, none-some, All-push, length-map, cond_both, Option, Some, None, All, nth}
+use Rattle.protocol.proofs.Base.{◌≡◌, refl, sym, ap, subst, ◌∙◌, true, false, ◌&&◌, List, [], ◌∷◌, ◌++◌, append-nil, map, ℕ, zero, suc, ◌<◌, arith, ltb, length, same_Some, none-some, All-push, length-map, cond_both, Option, Some, None, AllByRecursion, nth}
 use Rattle.protocol.specs.Rules.{Model, Entry, applied, modify, Outcome, Conflict, TurnedAway, SplitItem, Stage, Running, Locking, Ended, Stamp, Told, Transaction, Row, Shape, State, row_at, stamp_at, place_in, place_of, at_stage, looks, strays, split_in, after_running, locked_out, lock_for, free_own, clash, reading, Moved, World}
 use Rattle.protocol.proofs.Doing.{moved}
 use Rattle.protocol.proofs.Frames.{Grows, faithful_grows, after, merged_step, Goes}
@@ -45,11 +45,11 @@ module _ {M : Type 0} (k : Model M) (sh : Shape) (start : List M) (x : World M) 
   -- the stamps may change, but not the versions
   module _ (ss : List Stamp) (len : length ss ≡ length s.stamps) (same : (key : ℕ) → (stamp_at ss key).version ≡ (stamp_at s.stamps key).version) where
     -- a step after which the worker has another hand and stash, and owes what it owed
-    stays : (o : Option Transaction) (ts : List Transaction) → ((u : Transaction) → o ≡ Some u → HandOk k sh ls ss x.table x.events w u) → All (Ready k sh x.events w) ts
+    stays : (o : Option Transaction) (ts : List Transaction) → ((u : Transaction) → o ≡ Some u → HandOk k sh ls ss x.table x.events w u) → AllByRecursion (Ready k sh x.events w) ts
         → ((key : ℕ) → pending k sh ls w key o ≡ pending k sh ls w key row.current)
         → Kept k sh start (after k sh start x w s.ticket s.place ss (record { current = o; stash = ts; acknowledged = row.acknowledged; merged = row.merged }) x.table [])
     stays o ts hands stash owes = stays_owing k sh start x inv w ss _ inside len same
-        (λ u e. subst (λ es. HandOk k sh ls ss x.table es w u) (sym (append-nil x.events)) (hands u e)) (subst (λ es. All (Ready k sh es w) ts) (sym (append-nil x.events)) stash)
+        (λ u e. subst (λ es. HandOk k sh ls ss x.table es w u) (sym (append-nil x.events)) (hands u e)) (subst (λ es. AllByRecursion (Ready k sh es w) ts) (sym (append-nil x.events)) stash)
         (merged_step k sh s.phase (length s.split) row _ t held refl refl (inv.kept.rows w).merged) refl owes
 
     -- a transaction that has no place goes on without one

@@ -1,5 +1,5 @@
 -- A placed transaction applies an operation to its worker's own shard.
-use Rattle.protocol.proofs.Base.{◌≡◌, refl, sym, ap, subst, ◌∙◌, true, cond, ◌&&◌, List, [], ◌++◌, append_assoc, ◌⊎◌, inl, inr, ℕ, suc, ◌<◌, arith, eqb, length, drop, same_Some, nth_within, All-append, All-weaker, cases_eq, cond-true, cond-false, and_parts, both_ways, eq-eqb, not_from_true, tells, Option, Some, mapped, All, nth}
+use Rattle.protocol.proofs.Base.{◌≡◌, refl, sym, ap, subst, ◌∙◌, true, cond, ◌&&◌, List, [], ◌++◌, append_assoc, ◌⊎◌, inl, inr, ℕ, suc, ◌<◌, arith, eqb, length, drop, same_Some, nth_within, All-append, All-weaker, cases_eq, cond-true, cond-false, and_parts, both_ways, eq-eqb, not_from_true, tells, Option, Some, mapped, AllByRecursion, nth}
 use Rattle.protocol.specs.Rules.{Model, Operation, Entry, modify, Phase, Merging, SplitItem, Sharding, takes, Transaction, Row, Shape, State, idle, row_at, place_of, at_stage, with_current, changes, ops_of, ops_on, apply_all, split_in, find_split, is_split, sharded, after_writing, shard_at, shard_of, shard_by, World}
 use Rattle.protocol.proofs.Doing.{shared}
 use Rattle.protocol.proofs.Finding.{admitted}
@@ -110,7 +110,7 @@ module _ {M : Type 0} (k : Model M) (sh : Shape) (start : List M) (x : World M) 
             holds = ap (nth table) (sym place) ∙ nth_modify x.table at (apply_all k (ops_of w e)) ∙ ap (mapped (apply_all k (ops_of w e))) (ap (nth x.table) place ∙ before.holds)
                 ∙ ap Some (sym (apply_append k (ops v m.key) (ops_of w e) _));
             fit = All-append _ (ops v m.key) (ops_of w e) before.fit
-                (subst (λ (z : SplitItem). All (Fits k sh z) (ops_of w e)) is (fits_entry k sh ls w e.key j l found e refl (all_nth _ (ran t) i e hand.chosen next) (not_from_true (takes k w e e.action) fine)));
+                (subst (λ (z : SplitItem). AllByRecursion (Fits k sh z) (ops_of w e)) is (fits_entry k sh ls w e.key j l found e refl (all_nth _ (ran t) i e hand.chosen next) (not_from_true (takes k w e e.action) fine)));
           })
 
   -- what each worker owes

@@ -1,5 +1,5 @@
 -- Where shards lie in the table, what making them fresh leaves, and that all that is owed to a split record is what it is split for.
-use Rattle.protocol.proofs.Base.{◌≡◌, refl, sym, ap, ◌∙◌, false, not, ◌&&◌, ◌||◌, List, [], ◌∷◌, ◌⊎◌, inl, inr, ℕ, zero, suc, ◌+◌, ◌≤◌, ◌<◌, arith, eqb, leb, length, drop, none-some, nth_within, All-append, All-take, All-drop, cases_eq, cond_both, eqb-true, tells, Option, Some, None, All, nth}
+use Rattle.protocol.proofs.Base.{◌≡◌, refl, sym, ap, ◌∙◌, false, not, ◌&&◌, ◌||◌, List, [], ◌∷◌, ◌⊎◌, inl, inr, ℕ, zero, suc, ◌+◌, ◌≤◌, ◌<◌, arith, eqb, leb, length, drop, none-some, nth_within, All-append, All-take, All-drop, cases_eq, cond_both, eqb-true, tells, Option, Some, None, AllByRecursion, nth}
 use Rattle.protocol.specs.Rules.{Model, Action, Show, Need, Change, Entry, modify, Phase, Split, Merging, SplitItem, Stage, Running, Locking, Checking, Writing, Sharding, Ended, Stamp, first_of, at_entry, takes, not_taken, first_entry, no_record, late, Transaction, Shape, row_at, verb_of, action_ops, ops_of, ops_on, split_in, find_split, is_split, same_verb, strays, strays_from, shard_at, Event, fresh_row, fresh_all, World}
 use Rattle.protocol.proofs.Finding.{not_found}
 use Rattle.protocol.proofs.Invariant.{HandOk, Fits, pending_at, pending, owed, gathered, Inv}
@@ -58,43 +58,43 @@ taken : (o p : Option ℕ) → first_of (at_entry 10 o ∷ at_entry 11 p ∷ [])
 taken o p h = grind arith
 
 module _ {M : Type 0} (k : Model M) (sh : Shape) (ls : List SplitItem) (w key j : ℕ) (l : SplitItem) (found : find_split 0 ls key ≡ Some (j, l)) where
-  pub fits_entry : (e : Entry) → e.key ≡ key → strays ls e ≡ false → not_taken k w e ≡ false → All (Fits k sh l) (ops_of w e)
+  pub fits_entry : (e : Entry) → e.key ≡ key → strays ls e ≡ false → not_taken k w e ≡ false → AllByRecursion (Fits k sh l) (ops_of w e)
   fits_entry e d s n = go e.action (ap (strays_from e) (sym (ap (find_split 0 ls) d ∙ found)) ∙ s) n
     where
-      go : (a : Action) → not (eqb e.part l.part && same_verb (verb_of a) l.verb) ≡ false → not (takes k w e a) ≡ false → All (Fits k sh l) (action_ops w e.part a)
+      go : (a : Action) → not (eqb e.part l.part && same_verb (verb_of a) l.verb) ≡ false → not (takes k w e a) ≡ false → AllByRecursion (Fits k sh l) (action_ops w e.part a)
       go (Show n) p q = tt
       go (Need n b) p q = tt
       go (Change v n m) p q = (grind (arith, tells), tt)
 
-  fits_entries : (es : List Entry) → All (λ e. strays ls e ≡ false) es → All (λ e. not_taken k w e ≡ false) es → All (Fits k sh l) (ops_on w key es)
+  fits_entries : (es : List Entry) → AllByRecursion (λ e. strays ls e ≡ false) es → AllByRecursion (λ e. not_taken k w e ≡ false) es → AllByRecursion (Fits k sh l) (ops_on w key es)
   fits_entries [] s n = tt
   fits_entries (e ∷ es) s n =
-      All-append _ _ _ (cond_both (eqb e.key key) (ops_of w e) [] (All (Fits k sh l)) (λ d. fits_entry e (eqb-true _ _ d) s.0 n.0) (λ d. tt)) (fits_entries es s.1 n.1)
+      All-append _ _ _ (cond_both (eqb e.key key) (ops_of w e) [] (AllByRecursion (Fits k sh l)) (λ d. fits_entry e (eqb-true _ _ d) s.0 n.0) (λ d. tt)) (fits_entries es s.1 n.1)
 
   -- what entries that passed the tests do to a split key, from a number on, is what it is split for
-  pub fits_ran : (t : Transaction) (i : ℕ) → late k sh.keys w t.entries ≡ None → All (λ e. strays ls e ≡ false) (ran t) → All (Fits k sh l) (ops_on w key (drop i (ran t)))
+  pub fits_ran : (t : Transaction) (i : ℕ) → late k sh.keys w t.entries ≡ None → AllByRecursion (λ e. strays ls e ≡ false) (ran t) → AllByRecursion (Fits k sh l) (ops_on w key (drop i (ran t)))
   fits_ran t i fine chosen =
       let n = taken (first_entry (no_record sh.keys) 0 t.entries) (first_entry (not_taken k w) 0 t.entries) fine in
       fits_entries (drop i (ran t)) (All-drop _ i (ran t) chosen) (All-drop _ i (ran t) (All-take _ t.done t.entries (not_found (not_taken k w) 0 t.entries n)))
 
   -- and so is what it still owes
   pub fits_pending : {ss : List Stamp} {table : List M} {events : List Event} (o : Option Transaction)
-      → ((t : Transaction) → o ≡ Some t → HandOk k sh ls ss table events w t) → All (Fits k sh l) (pending k sh ls w key o)
+      → ((t : Transaction) → o ≡ Some t → HandOk k sh ls ss table events w t) → AllByRecursion (Fits k sh l) (pending k sh ls w key o)
   fits_pending None h = tt
   fits_pending (Some t) h = go t.stage
     where
-      go : (g : Stage) → All (Fits k sh l) (pending_at k sh ls w key (ran t) g)
+      go : (g : Stage) → AllByRecursion (Fits k sh l) (pending_at k sh ls w key (ran t) g)
       go Running = tt
       go (Locking c) = tt
       go Checking = tt
-      go (Writing p c) = cond_both (is_split ls key || leb c key) (ops_on w key (ran t)) [] (All (Fits k sh l)) (λ e. fits_ran t 0 (h t refl).ready.1 (h t refl).chosen) (λ e. tt)
-      go (Sharding p i) = cond_both (is_split ls key) (ops_on w key (drop i (ran t))) [] (All (Fits k sh l)) (λ e. fits_ran t i (h t refl).ready.1 (h t refl).chosen) (λ e. tt)
+      go (Writing p c) = cond_both (is_split ls key || leb c key) (ops_on w key (ran t)) [] (AllByRecursion (Fits k sh l)) (λ e. fits_ran t 0 (h t refl).ready.1 (h t refl).chosen) (λ e. tt)
+      go (Sharding p i) = cond_both (is_split ls key) (ops_on w key (drop i (ran t))) [] (AllByRecursion (Fits k sh l)) (λ e. fits_ran t i (h t refl).ready.1 (h t refl).chosen) (λ e. tt)
       go (Ended o) = tt
 
 -- all that is owed to a split record is what it is split for
 module _ {M : Type 0} (k : Model M) (sh : Shape) (start : List M) (x : World M) (inv : Inv k sh start x) (key j : ℕ) (l : SplitItem)
     (found : find_split 0 (split_in x.state.phase x.state.split) key ≡ Some (j, l)) where
-  pub fits_owed : (n : ℕ) → n ≤ sh.workers → All (Fits k sh l) (gathered k sh (owed k sh x.state inv.kept.values.ops key) n)
+  pub fits_owed : (n : ℕ) → n ≤ sh.workers → AllByRecursion (Fits k sh l) (gathered k sh (owed k sh x.state inv.kept.values.ops key) n)
   fits_owed zero u = tt
   fits_owed (suc n) u =
       let at = found_at _ key j l found in

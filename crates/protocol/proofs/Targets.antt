@@ -1,5 +1,5 @@
 -- Which key is locked or written next, and which operation goes to a shard next.
-use Rattle.protocol.proofs.Base.{◌≡◌, subst, Bool, true, false, not, ◌&&◌, List, [], ◌∷◌, inl, inr, ℕ, min, ◌≤◌, arith, eqb, or_cases, or_left, or_right, cases_lt, cond_both, false≢true, tells, Option, Some, None, All}
+use Rattle.protocol.proofs.Base.{◌≡◌, subst, Bool, true, false, not, ◌&&◌, List, [], ◌∷◌, inl, inr, ℕ, min, ◌≤◌, arith, eqb, or_cases, or_left, or_right, cases_lt, cond_both, false≢true, tells, Option, Some, None, AllByRecursion}
 use Rattle.protocol.specs.Rules.{Entry, SplitItem, changes, is_split, wanted, next_target, lesser, writes}
 
 module _ (ls : List SplitItem) where
@@ -21,7 +21,7 @@ module _ (ls : List SplitItem) where
   writes_unsplit [] key h = absurd (false≢true h)
   writes_unsplit (e ∷ es) key h = grind (arith, tells, writes_unsplit es key)
 
-  pub writes_key : (P : ℕ → Type 0) (es : List Entry) (key : ℕ) → All (λ e. P e.key) es → writes ls es key ≡ true → P key
+  pub writes_key : (P : ℕ → Type 0) (es : List Entry) (key : ℕ) → AllByRecursion (λ e. P e.key) es → writes ls es key ≡ true → P key
   writes_key P [] key a h = absurd (false≢true h)
   writes_key P (e ∷ es) key a h = elim (or_cases (one_writes e key) (writes ls es key) h) [
     | inl p ↦ subst P (one_key e key p) a.0

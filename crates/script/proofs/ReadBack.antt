@@ -2,7 +2,7 @@
 use Rattle.std.proofs.Common.{◌≡◌, ℕ, ◌+◌, ◌*◌, ◌/◌, ◌%◌, ◌<◌, Bool, true, false, cond, eqb, List, [], ◌∷◌, ◌++◌, Some, Option, sym, refl, ap, ◌∙◌, arith}
 use Rattle.std.specs.Option.{option_map}
 use Rattle.std.specs.Fmt.{digit_glyph}
-use Rattle.std.specs.List.{AllByRecursion as All}
+use Rattle.std.specs.List.{AllByRecursion}
 use Rattle.std.proofs.lemmas.Bool.{eqb-true, cond-false}
 use Rattle.std.proofs.lemmas.Bool.Decides.{nat_tests}
 use Rattle.script.specs.Options.{and_then}
@@ -36,7 +36,7 @@ hex_pair_digit_glyph upper b small =
     ∙ ap (λ (o : Option ℕ). option_map (λ l. 16 * (b / 16) + l) o) low
     ∙ ap Some sum
 
-hexed_back : (upper : Bool) (bytes : List ℕ) → All (λ b. b < 256) bytes → unescaped (escape_hex upper bytes) ≡ Some bytes
+hexed_back : (upper : Bool) (bytes : List ℕ) → AllByRecursion (λ b. b < 256) bytes → unescaped (escape_hex upper bytes) ≡ Some bytes
 hexed_back upper [] small = refl
 hexed_back upper (b ∷ bs) small =
     ap (λ (o : Option ℕ). and_then o (λ c. onto c (unescaped (escape_hex upper bs)))) (hex_pair_digit_glyph upper b small.0)

@@ -3,7 +3,7 @@ use Rattle.std.proofs.Common.{◌≡◌, ℕ, ◌^◌, ◌<◌, eqb, List, [], �
 use Rattle.std.specs.Option.{option_map}
 use Rattle.std.specs.Str.Parse.{AllDigits}
 use Rattle.std.specs.Int.{IsInRange}
-use Rattle.std.specs.List.{AllByRecursion as All}
+use Rattle.std.specs.List.{AllByRecursion}
 use Rattle.std.proofs.lemmas.Fmt.{decimal_is_IsNumeral}
 use Rattle.std.proofs.lemmas.List.{append_assoc}
 use Rattle.std.proofs.lemmas.Str.Parse.{digit_from_value}
@@ -18,7 +18,7 @@ use Rattle.script.proofs.Spelled.{spelt}
 -- a word without a byte, in front of that byte
 module _ (b : ℕ) where
   abbrev Free : List ℕ → Type 0
-  Free w = All (λ c. c ≡ b → ⊥) w
+  Free w = AllByRecursion (λ c. c ≡ b → ⊥) w
 
   digits_free : (IsInRange 48 57 b → ⊥) → (ds : List ℕ) → AllDigits 10 ds → Free ds
   digits_free none [] d = tt

@@ -1,6 +1,6 @@
 -- What a text with escapes stands for, two ways to write any bytes, and that both are read back.
 use Rattle.std.specs.Prelude.{◌≡◌, ℕ, ◌+◌, ◌-◌, ◌*◌, ◌/◌, ◌%◌, ◌<◌, Bool, cond, List, [], ◌∷◌, Some, None, Option, ◌==◌}
-use Rattle.std.specs.List.{flat_map, AllByRecursion as All}
+use Rattle.std.specs.List.{flat_map, AllByRecursion}
 use Rattle.std.specs.Option.{option_map}
 use Rattle.std.specs.Int.{is_in_range}
 use Rattle.std.specs.Fmt.{digit_glyph}
@@ -55,4 +55,4 @@ escape_hex upper bytes = flat_map (hex_byte upper) bytes
 abbrev pub EscapesReadBack : Type 0
 EscapesReadBack =
     ((bytes : List ℕ) → unescaped (escape bytes) ≡ Some bytes)
-    × ((upper : Bool) (bytes : List ℕ) → All (λ b. b < 256) bytes → unescaped (escape_hex upper bytes) ≡ Some bytes)
+    × ((upper : Bool) (bytes : List ℕ) → AllByRecursion (λ b. b < 256) bytes → unescaped (escape_hex upper bytes) ≡ Some bytes)

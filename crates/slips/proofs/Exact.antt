@@ -1,6 +1,6 @@
 -- A text is read in one way at most: it has one list of entries, or one place where it fails.
 use Rattle.std.proofs.Common.{◌≡◌, ℕ, suc, ◌<◌, cond, List, [], ◌∷◌, ◌++◌, length, get_or, take, drop, Ok, Err, decimal, Result, sym, refl, ap, ◌∙◌, subst, inl, inr, ⊎_elim, arith}
-use Rattle.std.specs.List.{AllByRecursion as All}
+use Rattle.std.specs.List.{AllByRecursion}
 use Rattle.std.proofs.lemmas.Fmt.{decimal_injective, signed_decimal_injective}
 use Rattle.std.proofs.lemmas.List.{append-nil, append_assoc, append_cancel_left, length-append, length-take-le, take-take}
 use Rattle.std.proofs.lemmas.Bool.{cases_Bool, cases_order}
@@ -59,7 +59,7 @@ same_entry x y r s e =
 abbrev Stuck : List ℕ → Type 0
 Stuck t = (y : Entry) (rest : List ℕ) → InRange y → t ≡ line y ++ rest → ⊥
 
-same_front : (xs ys : List Entry) (r s : List ℕ) → All InRange xs → All InRange ys → Stuck r → Stuck s → render xs ++ r ≡ render ys ++ s → (xs ≡ ys) × (r ≡ s)
+same_front : (xs ys : List Entry) (r s : List ℕ) → AllByRecursion InRange xs → AllByRecursion InRange ys → Stuck r → Stuck s → render xs ++ r ≡ render ys ++ s → (xs ≡ ys) × (r ≡ s)
 same_front [] [] r s i j v w e = (refl, e)
 same_front [] (y ∷ ys) r s i j v w e = absurd (v y (render ys ++ s) j.0 (e ∙ append_assoc (line y) (render ys) s))
 same_front (x ∷ xs) [] r s i j v w e = absurd (w x (render xs ++ r) i.0 (sym e ∙ append_assoc (line x) (render xs) r))
@@ -101,10 +101,10 @@ same_wrong t a b (inr p) (inr q) = p.place ∙ sym q.place
 
 -- ---- the reader's answer is the only one
 
-same_entries : (es fs : List Entry) → All InRange es → All InRange fs → render es ≡ render fs → es ≡ fs
+same_entries : (es fs : List Entry) → AllByRecursion InRange es → AllByRecursion InRange fs → render es ≡ render fs → es ≡ fs
 same_entries es fs r s e = (same_front es fs [] [] r s stuck_end stuck_end (append-nil (render es) ∙ e ∙ sym (append-nil (render fs)))).0
 
-fails_not : (text : List ℕ) (k b : ℕ) → Fails text k b → (es : List Entry) → All InRange es → text ≡ render es → ⊥
+fails_not : (text : List ℕ) (k b : ℕ) → Fails text k b → (es : List Entry) → AllByRecursion InRange es → text ≡ render es → ⊥
 fails_not text k b f es r e =
     let none = (same_front f.before es f.rest [] f.ranged r (stuck_wrong _ _ f.wrong) stuck_end (sym f.split ∙ e ∙ sym (append-nil (render es)))).1 in
     omega (arith, ap length none, f.more)

@@ -2,7 +2,7 @@
 use Rattle.std.proofs.Common.{◌≡◌, ℕ, zero, suc, ◌^◌, ◌<◌, ◌≤◌, true, false, cond, eqb, List, [], ◌∷◌, ◌++◌, length, get_or, take, ℤ, pos, negsuc, decimal, sym, refl, ap, ◌∙◌, subst, inr, arith, w64, SFits, rules}
 use Rattle.std.specs.Str.Parse.{AllDigits}
 use Rattle.std.specs.Fmt.{signed_decimal}
-use Rattle.std.specs.List.{AllByRecursion as All}
+use Rattle.std.specs.List.{AllByRecursion}
 use Rattle.std.proofs.lemmas.Fmt.{decimal_nonempty, digits_decimal}
 use Rattle.std.proofs.ByRecursion.{All-append, All-weaker}
 use Rattle.std.proofs.lemmas.List.{append-nil, append_assoc, length-append, length-take-le, take_all, take-take}
@@ -52,7 +52,7 @@ good_form shown w is = subst Good (sym is.1.1) (good_decimal is.0 (omega (arith,
 good_form number w is = subst Good (sym is.1.1) (good_signed is.0 is.1.0)
 good_form mark w is = subst Good (sym is.1.1) (good_decimal is.0 (omega (arith, is.1.0)))
 
-pub good_forms : (fs : List Form) (ws : List (List ℕ)) → HaveForms fs ws → All Good ws
+pub good_forms : (fs : List Form) (ws : List (List ℕ)) → HaveForms fs ws → AllByRecursion Good ws
 good_forms fs [] h = tt
 good_forms [] (w ∷ ws) h = absurd h
 good_forms (f ∷ fs) (w ∷ ws) h = (good_form f w h.0, good_forms fs ws h.1)

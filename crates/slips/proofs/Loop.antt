@@ -1,6 +1,6 @@
 -- The reader's loop: the entries read so far, and the room for one more.
 use Rattle.std.proofs.Common.{◌≡◌, ℕ, ◌+◌, ◌<◌, ◌≤◌, cond, eqb, List, [], ◌∷◌, ◌++◌, length, drop, sym, refl, ap, ◌∙◌, arith}
-use Rattle.std.specs.List.{AllByRecursion as All}
+use Rattle.std.specs.List.{AllByRecursion}
 use Rattle.std.proofs.ByRecursion.{All-push}
 use Rattle.std.proofs.lemmas.List.{append-nil, append_assoc, length-append, length-drop, flat_map_more, nil_from_length}
 use Rattle.std.proofs.lemmas.List.Sums.{sum_by-append}
@@ -12,7 +12,7 @@ use Rattle.slips.specs.declared.entry.Entry.{Entry}
 
 -- the entries es are read from the front of a text, up to a place
 pub record Read (text : List ℕ) (es : List Entry) (at : ℕ) : Type 0 where
-  pub ranged : All InRange es
+  pub ranged : AllByRecursion InRange es
   pub split : text ≡ render es ++ drop at text
   pub place : at ≡ length (render es)
   pub within : at ≤ length text

@@ -1,6 +1,6 @@
 -- The words of an entry as they are read one by one, and what a wrong one says of the text.
 use Rattle.std.proofs.Common.{◌≡◌, ℕ, suc, ◌+◌, ◌<◌, ◌≤◌, min, List, [], ◌∷◌, ◌++◌, length, get_or, take, drop, Ok, Err, sym, refl, ap, ◌∙◌, subst, inl, inr, ⊎_elim, arith}
-use Rattle.std.specs.List.{AllByRecursion as All}
+use Rattle.std.specs.List.{AllByRecursion}
 use Rattle.std.proofs.ByRecursion.{All-append}
 use Rattle.std.proofs.lemmas.List.{append-nil, append_assoc, append_cancel_left, length-append, take_at, drop_more, get_or-drop, length-drop}
 use Rattle.words.specs.Numbers.{keyed, Keyed}
@@ -31,7 +31,7 @@ words_at text at w h = ap words h.split ∙ words_plain (bytes_of w) (drop (stop
 -- the words ws are read from the place `at` of a text, and end at e
 pub record Sofar (text : List ℕ) (at : ℕ) (ws : List (List ℕ)) (e : ℕ) : Type 0 where
   pub some : 0 < length ws
-  pub plain : All Plain ws
+  pub plain : AllByRecursion Plain ws
   pub split : drop at text ≡ spaced ws ++ drop e text
   pub stops : Stops (drop e text)
   pub here : e ≡ at + length (spaced ws)
@@ -149,7 +149,7 @@ module _ {text : List ℕ} {at : ℕ} {first : Word} (inside : at < length text)
       begun : (fs : List (List ℕ)) → Figures h fs → Begins (bytes_of first ∷ bytes_of second ∷ fs)
       begun fs f = subst Begins (sym (both fs)) (begins_with h k.0 k.1 ek.0 fs f)
 
-      good : (fs : List (List ℕ)) → HaveForms (tail h) fs → All Good (bytes_of first ∷ bytes_of second ∷ fs)
+      good : (fs : List (List ℕ)) → HaveForms (tail h) fs → AllByRecursion Good (bytes_of first ∷ bytes_of second ∷ fs)
       good fs f = good_forms (forms h) (bytes_of first ∷ bytes_of second ∷ fs) (eh, ((k, ek), f))
 
       two : Sofar text at (bytes_of first ∷ bytes_of second ∷ []) (stop text second)

@@ -1,6 +1,6 @@
 -- The words of a text that begins with words one space apart.
 use Rattle.std.proofs.Common.{◌≡◌, ℕ, ◌+◌, ◌<◌, Bool, true, false, cond, eqb, List, [], ◌∷◌, ◌++◌, length, sym, refl, ap, ◌∙◌, inl, ⊎_elim, arith}
-use Rattle.std.specs.List.{AllByRecursion as All}
+use Rattle.std.specs.List.{AllByRecursion}
 use Rattle.std.proofs.lemmas.List.{append_assoc, length-append}
 use Rattle.std.proofs.lemmas.Bool.{ne_eqb}
 use Rattle.words.specs.Words.{Plain, Stops}
@@ -24,7 +24,7 @@ words_plain (x ∷ w) r p s =
     let b = ne_eqb x 32 p.0.0 in
     rw (a, b) (ap (onto x) (words_plain w r p.1 s))
 
-pub words_spaced : (ws : List (List ℕ)) (r : List ℕ) → 0 < length ws → All Plain ws → Stops r → words (spaced ws ++ r) ≡ ws ++ behind r
+pub words_spaced : (ws : List (List ℕ)) (r : List ℕ) → 0 < length ws → AllByRecursion Plain ws → Stops r → words (spaced ws ++ r) ≡ ws ++ behind r
 words_spaced [] r some p s = absurd (omega arith)
 words_spaced (w ∷ []) r some p s = words_plain w r p.0 s
 words_spaced (w ∷ v ∷ ws) r some p s =

@@ -1,6 +1,6 @@
 -- Which texts are read, as what, and how another is refused.
 use Rattle.std.specs.Prelude.{◌≡◌, ℕ, ◌<◌, ◌≤◌, ◌⊎◌, List, [], ◌∷◌, length, Ok, Err, count_by, Result, nat_eq}
-use Rattle.std.specs.List.{AllByRecursion as All}
+use Rattle.std.specs.List.{AllByRecursion}
 use Rattle.slips.specs.Canon.{InRange, render}
 use Rattle.slips.specs.Listed.{entries_of}
 use Rattle.slips.specs.Wrong.{Fails}
@@ -29,5 +29,5 @@ told (Err f) = Err (code f)
 
 -- a text of the right size is read as the entries that it is the canonical text of, and otherwise refused where it first goes wrong
 abbrev pub ReadAs : List ℕ → Result (List Entry) (List ℕ) → Type 0
-ReadAs text (Ok es) = Sized text × All InRange es × (text ≡ render es)
+ReadAs text (Ok es) = Sized text × AllByRecursion InRange es × (text ≡ render es)
 ReadAs text (Err c) = ((Sized text → ⊥) × (c ≡ 8 ∷ [])) ⊎ (Sized text × ((e : ℕ) × (b : ℕ) × Fails text e b × (c ≡ 9 ∷ e ∷ b ∷ [])))

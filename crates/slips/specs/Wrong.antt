@@ -1,6 +1,6 @@
 -- Where a text first departs from the canonical text of entries.
 use Rattle.std.specs.Prelude.{◌≡◌, ℕ, zero, suc, ◌+◌, ◌<◌, cond, ◌⊎◌, List, [], ◌∷◌, ◌++◌, length, take, ◌==◌, ◌≢◌}
-use Rattle.std.specs.List.{AllByRecursion as All}
+use Rattle.std.specs.List.{AllByRecursion}
 use Rattle.slips.specs.Canon.{spell, InRange, spaced, line, render}
 use Rattle.slips.specs.declared.entry.Entry.{Entry}
 
@@ -48,7 +48,7 @@ pub record Fails (text : List ℕ) (number byte : ℕ) : Type 0 where
   pub before : List Entry
   pub rest : List ℕ
   pub at : ℕ
-  pub ranged : All InRange before
+  pub ranged : AllByRecursion InRange before
   pub split : text ≡ render before ++ rest
   pub more : 0 < length rest
   pub count : number ≡ length before

@@ -1,6 +1,6 @@
 -- A word that a text has at a place.
 use Rattle.std.specs.Prelude.{◌≡◌, ℕ, ◌+◌, ◌<◌, ◌≤◌, min, ◌⊎◌, List, [], ◌∷◌, ◌++◌, length, drop, Ok, Err, Result, ◌≢◌, slice_index}
-use Rattle.std.specs.List.{AllByRecursion as All}
+use Rattle.std.specs.List.{AllByRecursion}
 use Rattle.words.specs.declared.word.Word.{Word}
 
 abbrev pub bytes_of : Word → List ℕ
@@ -12,7 +12,7 @@ stop text w = min (w.at + length (bytes_of w)) (length text)
 
 -- bytes that no space and no ending byte is among
 abbrev pub Plain : List ℕ → Type 0
-Plain w = All (λ c. (c ≢ 32) × (c ≢ 10)) w
+Plain w = AllByRecursion (λ c. (c ≢ 32) × (c ≢ 10)) w
 
 -- no byte, or first a space or an ending byte
 abbrev pub Stops : List ℕ → Type 0
