@@ -10,10 +10,11 @@ pub mod Doing
 pub mod Allowed
 pub mod Invariant
 pub mod Frames
-pub mod Past
 pub mod Owing
-pub mod Shards
+pub mod Past
 pub mod Stages
+pub mod Shards
+pub mod Stepping
 pub mod Commuting
 pub mod Reading
 pub mod Running

@@ -82,7 +82,7 @@ module _ {M : Type 0} (k : Model M) where
       past_none = subst (λ fs. Past k sh start fs ticket place) (sym (append-nil es)) past
 
       taken_longer : (new : List Event) (i : ℕ) (p : Placing) → nth es i ≡ Some (Placed p) → (j : ℕ) × (u : Taking) × (j < i) × (nth (es ++ new) j ≡ Some (Taken u)) × SameSlip u p
-      taken_longer new i p h = let r = past.as-taken i p h in (r.0, r.1, r.2, nth_longer es new r.0 (Taken r.1) r.3, r.4)
+      taken_longer new i p h = let r = past.as_taken i p h in (r.0, r.1, r.2, nth_longer es new r.0 (Taken r.1) r.3, r.4)
 
       -- a taking under the next ticket
       pub past_taken : (t : Taking) → t.ticket ≡ suc ticket → ReadAs t.text (Ok t.entries) → Past k sh start (es ++ (Taken t ∷ [])) (suc ticket) place
@@ -115,9 +115,13 @@ module _ {M : Type 0} (k : Model M) where
               | inl g ↦ taken_longer (Placed p ∷ []) i q g
               | inr g ↦
                   let e = g.1 in
-                  let same : p ≡ q = cc in
-                  let t : Taking = record { ticket = p.ticket; worker = p.worker; text = live.1; entries = p.entries } in
-                  (live.0, t, omega (arith, nth_within es live.0 (Taken t) live.2, g.0), nth_longer es (Placed p ∷ []) live.0 (Taken t) live.2, subst (SameSlip t) same (record { ticket = refl; worker = refl; entries = refl }))
+                  let same : p ≡ q = cc in (
+                    live.at,
+                    live.taking,
+                    omega (arith, nth_within es live.at (Taken live.taking) live.there, g.0),
+                    nth_longer es (Placed p ∷ []) live.at (Taken live.taking) live.there,
+                    subst (SameSlip live.taking) same (record { ticket = live.ticket_is; worker = live.worker_is; entries = live.entries_are }),
+                  )
             ];
             as_read = λ i u h. past.as_read i u (elim (nth_push es (Placed p) i (Taken u) h) [ inl q ↦ q | inr q ↦ let e = q.1 in absurd (let z : ◌≡◌ {A = ℕ} 0 1 = cc in omega arith) ]);
             same_readings =
@@ -126,7 +130,7 @@ module _ {M : Type 0} (k : Model M) where
           }
 
       -- no place is above the last one
-      pub placed_low : (w : ℕ) (t : Transaction) (p : ℕ) → HasPlace es w t p → p ≤ place
-      placed_low w t p h =
-          let c = counted_at placing_in (λ (q : Placing). q.place) sh.first (length (placings es)) es h.0 _ _ past.each_place h.1 refl in
-          omega (arith, c.0, c.1, past.last_place)
+      pub placed_low : (t : Transaction) (p : ℕ) → HasPlace es t p → p ≤ place
+      placed_low t p h =
+          let c = counted_at placing_in (λ (q : Placing). q.place) sh.first (length (placings es)) es h.at (Placed h.placing) h.placing past.each_place h.there refl in
+          omega (arith, c.0, c.1, h.place_is, past.last_place)

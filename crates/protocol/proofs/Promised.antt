@@ -36,7 +36,7 @@ module _ {M : Type 0} (k : Model M) (sh : Shape) (start : List M) (es : List Eve
 
   in_time : (h i j : ℕ) (p q : Placing) (t : Taking) → h < i → nth es h ≡ Some (Placed p) → nth es i ≡ Some (Taken t) → nth es j ≡ Some (Placed q) → q.ticket ≡ t.ticket → p.place < q.place
   in_time h i j p q t l a b c same =
-      let u = past.as-taken j q c in
+      let u = past.as_taken j q c in
       let e = taken_once i u.0 t u.1 b u.3 (sym same ∙ u.4.ticket) in
       let m = (counted_at placing_in (λ (r : Placing). r.place) sh.first (length (placings es)) es h (Placed p) p past.each_place a refl).0 in
       let n = (counted_at placing_in (λ (r : Placing). r.place) sh.first (length (placings es)) es j (Placed q) q past.each_place c refl).0 in
@@ -107,7 +107,7 @@ module _ {M : Type 0} (k : Model M) where
         → RightlyTold x.events n (cond (option_is_some (place_in o)) t.answers []) o
     told w n t l held is (Committed p) g =
         let h = ((inv.kept.rows w).hand t held).placed p (ap place_of g) in
-        (h.at, h.placing, h.there, h.ticket-is ∙ is, h.place-is, h.answers-are)
+        (h.at, h.placing, h.there, h.ticket_is ∙ is, h.place_is, h.answers_are)
     told w n t l held is (Conflict key) g = (unplaced w n t l held is (ap place_of g), refl)
     told w n t l held is TurnedAway g = (unplaced w n t l held is (ap place_of g), refl)
 
@@ -137,7 +137,7 @@ module _ {M : Type 0} (k : Model M) where
     kept = record {
       serializable = record {
         each_place = inv.kept.past.each_place;
-        as_taken = inv.kept.past.as-taken;
+        as_taken = inv.kept.past.as_taken;
         as_read = inv.kept.past.as_read;
         same_readings = inv.kept.past.same_readings;
         same_values = same_values;

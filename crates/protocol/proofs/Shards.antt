@@ -87,8 +87,8 @@ module _ {M : Type 0} (k : Model M) (sh : Shape) (ls : List SplitItem) (w key j 
       go Running = tt
       go (Locking c) = tt
       go Checking = tt
-      go (Writing p c) = cond_both (is_split ls key || leb c key) (ops_on w key (ran t)) [] (AllByRecursion (Fits k sh l)) (λ e. fits_ran t 0 (h t refl).ready.1 (h t refl).chosen) (λ e. tt)
-      go (Sharding p i) = cond_both (is_split ls key) (ops_on w key (drop i (ran t))) [] (AllByRecursion (Fits k sh l)) (λ e. fits_ran t i (h t refl).ready.1 (h t refl).chosen) (λ e. tt)
+      go (Writing p c) = cond_both (is_split ls key || leb c key) (ops_on w key (ran t)) [] (AllByRecursion (Fits k sh l)) (λ e. fits_ran t 0 (h t refl).ready.fine (h t refl).chosen) (λ e. tt)
+      go (Sharding p i) = cond_both (is_split ls key) (ops_on w key (drop i (ran t))) [] (AllByRecursion (Fits k sh l)) (λ e. fits_ran t i (h t refl).ready.fine (h t refl).chosen) (λ e. tt)
       go (Ended o) = tt
 
 -- all that is owed to a split record is what it is split for
