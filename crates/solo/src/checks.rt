@@ -1,7 +1,7 @@
 // What is tested of a transaction's entries before any of them runs.
 ghost use Rattle.std.specs.Prelude.{◌≡◌};
 ghost use Rattle.solo.specs.Codes.{coded};
-ghost use Rattle.solo.specs.Rules.{first_entry, late, no_record, not_taken, refuse_or, takes as taken-by};
+ghost use Rattle.solo.specs.Rules.{first_entry, late, no_record, not_taken, refuse_or, takes as taken_by};
 
 use crate::refusal::Refusal;
 use kinds::kind::Kind;
@@ -51,7 +51,7 @@ fn find_not_taken<K: Kind>(worker: u8, entries: &[Entry]) -> Option<usize>
 
 // Whether the kind takes the entry's operation, or has the number that the entry reads.
 fn takes<K: Kind>(worker: u8, entry: Entry) -> bool
-    ensures { result ≡ taken-by K.Kind.model worker entry entry.action }
+    ensures { result ≡ taken_by K.Kind.model worker entry entry.action }
 {
     match entry.action {
         Action::Show { number } => K::shows(entry.part, number),
