@@ -11,7 +11,6 @@ use Rattle.triples.specs.declared.ten.Ten.{Ten}
 use Rattle.triples.specs.Lasts.{Latest}
 use Rattle.triples.specs.Tens.{Tops, tops}
 use Rattle.script.specs.declared.commands.KindName.{KindName}
-use Rattle.script.specs.declared.commands.KindName.TheVariants as KindName
 use Rattle.solo.specs.Rules.{State, opening}
 use Rattle.solo.specs.View.{view}
 use Rattle.desk.specs.declared.engine.Engine.{Engine}

@@ -1,5 +1,5 @@
 -- What is promised of every run of turns.
-use Rattle.std.specs.Prelude.{◌≡◌, ℕ, ◌^◌, ◌<◌, ◌≤◌, true, List, [], ◌∷◌, map, length, take, ℤ, Some, None, Ok, count_by, Option, Result, nat_eq}
+use Rattle.std.specs.Prelude.{◌≡◌, ℕ, ◌^◌, ◌<◌, ◌≤◌, true, List, [], ◌∷◌, map, length, take, ℤ, Some, None, Ok, count_by, Result, nat_eq}
 use Rattle.std.specs.List.{range_with_len, slice_get}
 use Rattle.kinds.specs.Model.{Model}
 use Rattle.slips.specs.Reads.{ReadAs}

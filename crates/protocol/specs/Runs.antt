@@ -1,8 +1,7 @@
 -- Runs of turns by anyone, in any order, and the serial run of the transactions that got a place.
-use Rattle.std.specs.Prelude.{◌≡◌, ℕ, List, [], ◌∷◌, ◌++◌, ℤ, Some, None, Option, Result}
+use Rattle.std.specs.Prelude.{◌≡◌, ℕ, List, [], ◌∷◌, ◌++◌, ℤ, Some, None, Option}
 use Rattle.kinds.specs.Model.{Model}
 use Rattle.slips.specs.Reads.{ReadAs}
-use Rattle.slips.specs.declared.entry.Entry.{Entry}
 use Rattle.serial.specs.Serial.{Ran, serial}
 use Rattle.protocol.specs.State.{Shape, State}
 use Rattle.protocol.specs.Turns.{Call, Take, Draw, Step, Acknowledge, Merge, Collect, AnnounceSplit, AnnounceMerging, Release, Refused, Taking, Placing, Event, Taken, Placed, opened, turn}

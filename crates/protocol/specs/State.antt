@@ -10,7 +10,6 @@ use Rattle.protocol.specs.declared.data.Stage.{Stage}
 use Rattle.protocol.specs.declared.data.Stage.TheVariants.{Running, Locking, Checking, Writing, Sharding, Ended}
 use Rattle.protocol.specs.declared.data.Stamp.{Stamp}
 use Rattle.protocol.specs.declared.data.Told.{Told}
-use Rattle.protocol.specs.declared.data.Told.TheVariants as Told
 
 -- a transaction: its ticket and entries, how many of them have run, the `need` that skipped the rest,
 -- the versions in the order of first readings, the answers so far, and what it does next

@@ -12,7 +12,6 @@ use Rattle.protocol.specs.declared.data.Stage.{Stage}
 use Rattle.protocol.specs.declared.data.Stage.TheVariants.{Running, Locking, Checking, Writing, Sharding, Ended}
 use Rattle.protocol.specs.declared.data.Stamp.{Stamp}
 use Rattle.protocol.specs.declared.data.Told.{Told}
-use Rattle.protocol.specs.declared.data.Told.TheVariants as Told
 use Rattle.protocol.specs.State.{Transaction, Row, stamp_at, ran, told_of, at_stage, with_current}
 use Rattle.protocol.specs.Entries.{looks, ops_of, ops_on, apply_all, find_split, strays, next_target, next_shard}
 

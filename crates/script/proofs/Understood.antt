@@ -10,7 +10,7 @@ use Rattle.std.proofs.lemmas.Str.Parse.{digit_from_value}
 use Rattle.std.proofs.lemmas.Bool.{ne_eqb, cond-true, cond-false, eq-eqb}
 use Rattle.script.specs.Options.{and_then}
 use Rattle.script.specs.Words.{front, behind, numeral}
-use Rattle.script.specs.Commands.{opens, runs, shows, kind_text, kind_by_name, leads, keyed, opening, running, showing, written, PlainlyUnderstood}
+use Rattle.script.specs.Commands.{opens, runs, shows, kind_text, kind_by_name, leads, keyed, opening, running, showing, PlainlyUnderstood}
 use Rattle.script.specs.declared.commands.KindName.{KindName}
 use Rattle.script.specs.declared.commands.KindName.TheVariants.{Count, Four}
 use Rattle.script.proofs.Spelled.{spelt}

@@ -7,7 +7,6 @@ use Rattle.script.specs.Words.{front, behind, numeral}
 use Rattle.script.specs.declared.commands.KindName.{KindName}
 use Rattle.script.specs.declared.commands.KindName.TheVariants.{Count, Four}
 use Rattle.script.specs.declared.commands.Name.{Name}
-use Rattle.script.specs.declared.commands.Name.TheVariants as Name
 use Rattle.script.specs.declared.commands.Command.{Command}
 use Rattle.script.specs.declared.commands.Command.TheVariants.{Open, Run, Tally}
 

@@ -15,7 +15,6 @@ use Rattle.slips.specs.Canon.{marked, heading, headed, figures, spell, Ranged, I
 use Rattle.slips.specs.Forms.{Form, verb, key, shown, number, mark, HasForm, tail, forms, HaveForms}
 use Rattle.slips.specs.Wrong.{words, Begins}
 use Rattle.slips.specs.declared.entry.Action.{Action}
-use Rattle.slips.specs.declared.entry.Action.TheVariants as Action
 use Rattle.slips.specs.declared.entry.Entry.{Entry}
 use Rattle.slips.specs.declared.line.Head.{Head}
 use Rattle.slips.specs.declared.line.Head.TheVariants.{Show, Need, Change}

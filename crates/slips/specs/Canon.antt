@@ -7,7 +7,6 @@ use Rattle.kinds.specs.declared.operation.Verb.{Verb}
 use Rattle.kinds.specs.declared.operation.Verb.TheVariants.{Put, Add, Max, Min, Last, Top}
 use Rattle.words.specs.Numbers.{keyed, IsKey}
 use Rattle.slips.specs.declared.entry.Action.{Action}
-use Rattle.slips.specs.declared.entry.Action.TheVariants as Action
 use Rattle.slips.specs.declared.entry.Entry.{Entry}
 use Rattle.slips.specs.declared.line.Head.{Head}
 use Rattle.slips.specs.declared.line.Head.TheVariants.{Show, Need, Change}

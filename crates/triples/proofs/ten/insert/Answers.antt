@@ -1,5 +1,5 @@
 -- A triple passes the carried one, changes places with it, or meets it; at the end the carried one arrives.
-use Rattle.std.proofs.Common.{◌≡◌, ◌+◌, get_or, set, Less, Equal, Greater, sym, arith, rules}
+use Rattle.std.proofs.Common.{◌≡◌, ◌+◌, get_or, set, sym, arith, rules}
 use Rattle.triples.specs.Triples.{zero, by_order, better}
 use Rattle.triples.proofs.Placing.{passes, swaps, meets, arrives, kept_whole}
 use Rattle.triples.proofs.ten.insert.Goals as goal
