@@ -1,6 +1,6 @@
 -- Runs alone of the first entries of a transaction, and of all of them.
-use Rattle.protocol.proofs.Base.{◌≡◌, refl, sym, ap, subst, ◌∙◌, Bool, true, false, cond, ◌||◌, List, [], ◌∷◌, ◌++◌, append_assoc, append-nil, ℕ, zero, suc, ◌+◌, ◌≤◌, arith, leb, ℤ, lt_z, length, take, drop, length-take, take-append-drop, take_all, none-some, same_Some, All-weaker, leb-true, not_from_false, false≢true, Option, Some, None, option_is_some, AllByRecursion, nth}
-use Rattle.protocol.specs.Rules.{Model, Action, Show, Need, Change, Entry, tells, falls_short, applied, short_at, Alone, ran as alone_ran, peek, Ran, after, serial, Transaction, verb_of, changes, looks}
+use Rattle.protocol.proofs.Base.{◌≡◌, refl, sym, ap, subst, ◌∙◌, Bool, true, false, cond, ◌||◌, List, [], ◌∷◌, ◌++◌, append_assoc, append-nil, ℕ, zero, suc, ◌+◌, ◌≤◌, arith, leb, ℤ, length, take, drop, length-take, take-append-drop, take_all, none-some, same_Some, All-weaker, leb-true, not_from_false, false≢true, Option, Some, None, option_is_some, AllByRecursion, nth}
+use Rattle.protocol.specs.Rules.{Model, Action, Entry, tells, falls_short, applied, short_at, Alone, ran as alone_ran, peek, Ran, after, serial, Transaction, verb_of, changes, looks}
 use Rattle.serial.proofs.Alone.{short_idle, runs_alone}
 use Rattle.serial.proofs.Steps.{follow, before_goes, before_stops}
 use Rattle.protocol.proofs.Places.{some_none, modify_agrees}
@@ -28,20 +28,6 @@ module _ {M : Type 0} where
   abbrev one : Bool → ℕ → List M → List ℤ → Ran M → Ran M
   one short i us z rest = cond short (record { values = us; answers = z; skipped = Some i }) (follow z rest)
 
-  one_agrees : (b : Bool) (i : ℕ) (us vs : List M) (z : List ℤ) (r q : Ran M) → (r.answers ≡ q.answers) × (r.skipped ≡ q.skipped)
-      → ((one b i us z r).answers ≡ (one b i vs z q).answers) × ((one b i us z r).skipped ≡ (one b i vs z q).skipped)
-  one_agrees true i us vs z r q h = (refl, refl)
-  one_agrees false i us vs z r q h = (ap (λ x. z ++ x) h.0, h.1)
-
-  one_more : (b : Bool) (i : ℕ) (us : List M) (z : List ℤ) (r whole rest : Ran M) → (one b i us z r).skipped ≡ None → (r.skipped ≡ None → whole ≡ follow r.answers rest)
-      → one b i us z whole ≡ follow (one b i us z r).answers rest
-  one_more true i us z r whole rest h g = absurd (some_none i h)
-  one_more false i us z r whole rest h g = ap (follow z) (g h) ∙ ap (λ x. record { values = rest.values; answers = x; skipped = rest.skipped }) (sym (append_assoc z r.answers rest.answers))
-
-  one_stops : (b : Bool) (i j : ℕ) (us : List M) (z : List ℤ) (r whole : Ran M) → (one b i us z r).skipped ≡ Some j → (r.skipped ≡ Some j → whole ≡ r) → one b i us z whole ≡ one b i us z r
-  one_stops true i j us z r whole h g = refl
-  one_stops false i j us z r whole h g = ap (follow z) (g h)
-
 module _ {M : Type 0} (k : Model M) (w : ℕ) where
   serial_first : (i : ℕ) (e : Entry) (es : List Entry) (vs : List M)
       → serial k w i (e ∷ es) vs ≡ one (falls_short k e e.action vs) i (after k w e e.action vs) (tells k e e.action vs) (serial k w (suc i) es (after k w e e.action vs))
@@ -53,19 +39,13 @@ module _ {M : Type 0} (k : Model M) (w : ℕ) where
 
   -- what an entry tells goes by the record that it looks at
   tells_agrees : (e : Entry) (a : Action) (us vs : List M) → (option_is_some (verb_of a) ≡ false → nth us e.key ≡ nth vs e.key) → tells k e a us ≡ tells k e a vs
-  tells_agrees e (Show n) us vs h = ap (λ z. z ∷ []) (peek_agrees us vs e.key (k.shown e.part n) (h refl))
-  tells_agrees e (Need n b) us vs h = refl
-  tells_agrees e (Change v n m) us vs h = refl
+  tells_agrees e a us vs h = grind (arith, peek_agrees us vs e.key)
 
   falls_agrees : (e : Entry) (a : Action) (us vs : List M) → (option_is_some (verb_of a) ≡ false → nth us e.key ≡ nth vs e.key) → falls_short k e a us ≡ falls_short k e a vs
-  falls_agrees e (Show n) us vs h = refl
-  falls_agrees e (Need n b) us vs h = ap (λ z. lt_z z b) (peek_agrees us vs e.key (k.shown e.part n) (h refl))
-  falls_agrees e (Change v n m) us vs h = refl
+  falls_agrees e a us vs h = grind (arith, peek_agrees us vs e.key)
 
   after_agrees : (e : Entry) (a : Action) (us vs : List M) (key : ℕ) → nth us key ≡ nth vs key → nth (after k w e a us) key ≡ nth (after k w e a vs) key
-  after_agrees e (Show n) us vs key h = h
-  after_agrees e (Need n b) us vs key h = h
-  after_agrees e (Change v n m) us vs key h = modify_agrees us vs e.key key ((k.rule e.part v).apply (record { number = n; worker = w; mark = m })) h
+  after_agrees e a us vs key h = grind (arith, modify_agrees us vs e.key key)
 
   -- a run gave these readings
   abbrev pub Gives : List Entry → List M → List ℤ → Option ℕ → Type 0
@@ -84,10 +64,11 @@ module _ {M : Type 0} (k : Model M) (w : ℕ) where
   serial_agrees i (e ∷ es) us vs h =
       let look : changes e ≡ false → nth us e.key ≡ nth vs e.key = λ c. h.0 (not_from_false (changes e) c) in
       let rest = serial_agrees (suc i) es (after k w e e.action us) (after k w e e.action vs) (agree_after e es us vs h.1) in
-      let p = serial_first i e es us ∙ (λ j. one (falls_agrees e e.action us vs look j) i (after k w e e.action us) (tells_agrees e e.action us vs look j) (serial k w (suc i) es (after k w e e.action us))) in
+      let a = falls_agrees e e.action us vs look in
+      let b = tells_agrees e e.action us vs look in
+      let p = serial_first i e es us in
       let q = serial_first i e es vs in
-      let r = one_agrees (falls_short k e e.action vs) i (after k w e e.action us) (after k w e e.action vs) (tells k e e.action vs) _ _ rest in
-      (ap (λ (x : Ran M). x.answers) p ∙ r.0 ∙ ap (λ (x : Ran M). x.answers) (sym q), ap (λ (x : Ran M). x.skipped) p ∙ r.1 ∙ ap (λ (x : Ran M). x.skipped) (sym q))
+      rw (p, q) (grind arith)
 
   pub gives_agrees : (es : List Entry) (us vs : List M) (zs : List ℤ) (skipped : Option ℕ) → Agree es us vs → Gives es vs zs skipped → Gives es us zs skipped
   gives_agrees es us vs zs skipped h g = let a = serial_agrees 0 es us vs h in (a.0 ∙ g.0, a.1 ∙ g.1)
@@ -99,27 +80,27 @@ module _ {M : Type 0} (k : Model M) (w : ℕ) where
   serial_more i (e ∷ es) fs vs h =
       let us = after k w e e.action vs in
       let p = serial_first i e es vs in
+      let q = serial_first i e (es ++ fs) vs in
+      let g = ap (λ (x : Ran M). x.skipped) (sym p) ∙ h in
       let n : suc i + length es ≡ i + suc (length es) = omega arith in
-      serial_first i e (es ++ fs) vs
-      ∙ one_more (falls_short k e e.action vs) i us (tells k e e.action vs) (serial k w (suc i) es us) (serial k w (suc i) (es ++ fs) us) (serial k w (i + suc (length es)) fs (applied k w es us))
-      (ap (λ (x : Ran M). x.skipped) (sym p) ∙ h) (λ s. serial_more (suc i) es fs us s ∙ ap (λ m. follow (serial k w (suc i) es us).answers (serial k w m fs (applied k w es us))) n)
-      ∙ ap (λ (x : Ran M). follow x.answers (serial k w (i + suc (length es)) fs (applied k w es us))) (sym p)
+      let r = serial_more (suc i) es fs us in
+      let rest = serial k w (i + suc (length es)) fs (applied k w es us) in
+      let c = append_assoc (tells k e e.action vs) (serial k w (suc i) es us).answers rest.answers in
+      rw (q, p) (grind arith)
 
   -- and behind a skip nothing is done
   serial_stops : (i : ℕ) (es fs : List Entry) (vs : List M) (j : ℕ) → (serial k w i es vs).skipped ≡ Some j → serial k w i (es ++ fs) vs ≡ serial k w i es vs
   serial_stops i [] fs vs j h = absurd (none-some j h)
   serial_stops i (e ∷ es) fs vs j h =
-      let us = after k w e e.action vs in
       let p = serial_first i e es vs in
-      serial_first i e (es ++ fs) vs
-      ∙ one_stops (falls_short k e e.action vs) i j us (tells k e e.action vs) (serial k w (suc i) es us) (serial k w (suc i) (es ++ fs) us)
-      (ap (λ (x : Ran M). x.skipped) (sym p) ∙ h) (serial_stops (suc i) es fs us j)
-      ∙ sym p
+      let q = serial_first i e (es ++ fs) vs in
+      let g = ap (λ (x : Ran M). x.skipped) (sym p) ∙ h in
+      let r = serial_stops (suc i) es fs (after k w e e.action vs) j in
+      rw (q, p) (grind arith)
 
   -- one entry more
   last : (b : Bool) (n : ℕ) (us : List M) (z : List ℤ) → ((one b n us z (record { values = us; answers = []; skipped = None })).answers ≡ z) × ((one b n us z (record { values = us; answers = []; skipped = None })).skipped ≡ cond b (Some n) None)
-  last true n us z = (refl, refl)
-  last false n us z = (append-nil z, refl)
+  last b n us z = grind (arith, append-nil z)
 
   pub gives_more : (es : List Entry) (e : Entry) (vs : List M) (zs : List ℤ) → Gives es vs zs None
       → Gives (es ++ (e ∷ [])) vs (zs ++ tells k e e.action (applied k w es vs)) (cond (falls_short k e e.action (applied k w es vs)) (Some (length es)) None)

@@ -1,8 +1,11 @@
 -- What the three laws give: operations of one part and verb that split commute, and a shard that began fresh is its operations.
-use Rattle.protocol.proofs.Base.{◌≡◌, refl, sym, ap, subst, ◌∙◌, true, List, [], ◌∷◌, ◌++◌, T, AllByRecursion}
-use Rattle.protocol.specs.Rules.{Model, Rule, Laws, Operation, SplitItem, Shape, apply_all}
-use Rattle.protocol.proofs.Invariant.{Fits}
+use Rattle.protocol.proofs.Base.{◌≡◌, refl, sym, ap, subst, ◌∙◌, true, false, List, [], ◌∷◌, ◌++◌, ◌⊎◌, inl, inr, ℕ, ◌<◌, arith, T, same_Some, Some, AllByRecursion}
+use Rattle.protocol.specs.Rules.{Model, Rule, Laws, Operation, SplitItem, Shape, State, stamp_at, apply_all, split_in, find_split, is_split, World}
+use Rattle.protocol.proofs.Invariant.{owed, gathered, Fits, Inv}
 use Rattle.protocol.proofs.Operations.{apply_append}
+use Rattle.protocol.proofs.Owing.{Around, gathered_one, gathered_at, unlocked_owes}
+use Rattle.protocol.proofs.Shards.{split_item, fits_owed}
+use Rattle.protocol.proofs.Splits.{split_found, found_at, good_item}
 
 -- what holds of all of a joined list holds of its two parts
 pub all_parts : {A : Type 0} (P : A → Type 0) (xs ys : List A) → AllByRecursion P (xs ++ ys) → AllByRecursion P xs × AllByRecursion P ys
@@ -33,20 +36,14 @@ module _ {M : Type 0} (k : Model M) (laws : Laws k) (sh : Shape) (l : SplitItem)
   lists_commute [] ps x f g = refl
   lists_commute (o ∷ os) ps x f g = lists_commute os ps (does o x) f.1 g ∙ ap (apply_all k os) (one_through o ps x f.0 g)
 
-  in_three : (before os behind : List Operation) (x : M) → apply_all k (before ++ (os ++ behind)) x ≡ apply_all k behind (apply_all k os (apply_all k before x))
-  in_three before os behind x = apply_append k before (os ++ behind) x ∙ apply_append k os behind (apply_all k before x)
+  -- some of many may be done first, or last
+  apply_first : (before os rest behind : List Operation) (x : M) → AllByRecursion (Fits k sh l) before → AllByRecursion (Fits k sh l) os
+      → apply_all k (before ++ ((os ++ rest) ++ behind)) x ≡ apply_all k (before ++ (rest ++ behind)) (apply_all k os x)
+  apply_first before os rest behind x f g = simp (apply_append k) (ap (λ (z : M). apply_all k behind (apply_all k rest z)) (lists_commute before os x f g))
 
-  -- a block of operations may be done first, or last
-  pub apply_first : (before os behind : List Operation) (x : M) → AllByRecursion (Fits k sh l) (before ++ (os ++ behind)) → apply_all k (before ++ (os ++ behind)) x ≡ apply_all k (before ++ behind) (apply_all k os x)
-  apply_first before os behind x fit =
-      let a = all_parts (Fits k sh l) before (os ++ behind) fit in
-      let b = all_parts (Fits k sh l) os behind a.1 in
-      in_three before os behind x ∙ ap (apply_all k behind) (lists_commute before os x a.0 b.0) ∙ sym (apply_append k before behind (apply_all k os x))
-
-  pub apply_last : (before os behind : List Operation) (x : M) → AllByRecursion (Fits k sh l) (before ++ (os ++ behind)) → apply_all k (before ++ (os ++ behind)) x ≡ apply_all k os (apply_all k (before ++ behind) x)
-  apply_last before os behind x fit =
-      let b = all_parts (Fits k sh l) os behind (all_parts (Fits k sh l) before (os ++ behind) fit).1 in
-      in_three before os behind x ∙ lists_commute os behind (apply_all k before x) b.0 b.1 ∙ ap (apply_all k os) (sym (apply_append k before behind x))
+  apply_last : (before rest os behind : List Operation) (x : M) → AllByRecursion (Fits k sh l) os → AllByRecursion (Fits k sh l) behind
+      → apply_all k (before ++ ((rest ++ os) ++ behind)) x ≡ apply_all k os (apply_all k (before ++ (rest ++ behind)) x)
+  apply_last before rest os behind x f g = simp (apply_append k) (lists_commute os behind (apply_all k rest (apply_all k before x)) f g)
 
   -- what was done to a shard is done by merging it
   merge_applied : (os : List Operation) (y x : M) → AllByRecursion (Fits k sh l) os → rule.merge (apply_all k os y) x ≡ apply_all k os (rule.merge y x)
@@ -60,3 +57,49 @@ module _ {M : Type 0} (k : Model M) (laws : Laws k) (sh : Shape) (l : SplitItem)
   pub merge_all : (os : List Operation) (base x : M) → AllByRecursion (Fits k sh l) os
       → (k.rule l.part l.verb).merge (apply_all k os ((k.rule l.part l.verb).fresh base)) x ≡ apply_all k os x
   merge_all os base x fit = merge_applied os (rule.fresh base) x fit ∙ ap (apply_all k os) ((laws.lawful l.part l.verb).neutral base x split)
+
+-- what one worker owes may be done first, and what it comes to owe last: on a split record all operations commute, and on one that it has locked no other worker owes anything
+module _ {M : Type 0} (k : Model M) (laws : Laws k) (sh : Shape) (start : List M) (x : World M) (inv : Inv k sh start x) (w : ℕ) (inside : w < sh.workers) (key : ℕ) (low : key < sh.keys) where
+  abbrev s : State
+  s = x.state
+
+  abbrev ls : List SplitItem
+  ls = split_in s.phase s.split
+
+  abbrev owes : ℕ → List Operation
+  owes = owed k sh s inv.kept.values.ops key
+
+  abbrev Own : Type 0
+  Own = (is_split ls key ≡ true) ⊎ ((is_split ls key ≡ false) × ((stamp_at s.stamps key).owner ≡ Some w))
+
+  others : is_split ls key ≡ false → (stamp_at s.stamps key).owner ≡ Some w → (j : ℕ) → j < sh.workers → (j ≡ w → ⊥) → owes j ≡ []
+  others free own j u d = unlocked_owes k sh start x inv key j low u free (λ e. d (same_Some j w (sym e ∙ own)))
+
+  module _ (g : ℕ → List Operation) (same : (j : ℕ) → j < sh.workers → (j ≡ w → ⊥) → owes j ≡ g j) where
+    around : Around k sh owes g sh.workers w
+    around = gathered_at k sh owes g sh.workers w inside same
+
+    abbrev item : is_split ls key ≡ true → (j : ℕ) × (l : SplitItem) × (find_split 0 ls key ≡ Some (j, l))
+    item h = split_found ls key h
+
+    splits : (h : is_split ls key ≡ true) → (k.rule (item h).1.part (item h).1.verb).splits ≡ true
+    splits h = (good_item k sh.keys 0 s.split (item h).0 (item h).1 inv.kept.sized.split_good (split_item s.phase s.split (item h).0 (item h).1 (found_at ls key (item h).0 (item h).1 (item h).2).0).0).splits
+
+    fit : (h : is_split ls key ≡ true) → AllByRecursion (Fits k sh (item h).1) (around.before ++ (owes w ++ around.behind))
+    fit h = subst (AllByRecursion (Fits k sh (item h).1)) around.first (fits_owed k sh start x inv key (item h).0 (item h).1 (item h).2 sh.workers (omega arith))
+
+    pub first_done : Own → (os rest : List Operation) → owes w ≡ os ++ rest → g w ≡ rest → (y : M) → apply_all k (gathered k sh owes sh.workers) y ≡ apply_all k (gathered k sh g sh.workers) (apply_all k os y)
+    first_done (inl h) os rest own new y =
+        let a = all_parts (Fits k sh (item h).1) around.before _ (fit h) in
+        let b = all_parts (Fits k sh (item h).1) os rest (subst (AllByRecursion (Fits k sh (item h).1)) own (all_parts (Fits k sh (item h).1) (owes w) _ a.1).0) in
+        rw (around.first, around.second, own, new) (apply_first k laws sh (item h).1 (splits h) around.before os rest around.behind y a.0 b.0)
+    first_done (inr h) os rest own new y =
+        rw (gathered_one k sh owes sh.workers w inside (others h.0 h.1), gathered_one k sh g sh.workers w inside (λ j u d. sym (same j u d) ∙ others h.0 h.1 j u d), own, new) (apply_append k os rest y)
+
+    pub last_done : Own → (os : List Operation) → g w ≡ owes w ++ os → ((j : ℕ) (l : SplitItem) → find_split 0 ls key ≡ Some (j, l) → AllByRecursion (Fits k sh l) os)
+        → (y : M) → apply_all k (gathered k sh g sh.workers) y ≡ apply_all k os (apply_all k (gathered k sh owes sh.workers) y)
+    last_done (inl h) os new fits y =
+        let a = all_parts (Fits k sh (item h).1) (owes w) _ (all_parts (Fits k sh (item h).1) around.before _ (fit h)).1 in
+        rw (around.first, around.second, new) (apply_last k laws sh (item h).1 (splits h) around.before (owes w) os around.behind y (fits (item h).0 (item h).1 (item h).2) a.1)
+    last_done (inr h) os new fits y =
+        rw (gathered_one k sh owes sh.workers w inside (others h.0 h.1), gathered_one k sh g sh.workers w inside (λ j u d. sym (same j u d) ∙ others h.0 h.1 j u d), new) (apply_append k (owes w) os y)

@@ -7,25 +7,13 @@ use Rattle.protocol.specs.State.{ran}
 -- ---- what happened
 
 -- a transaction was taken for the worker
-pub record Live (events : List Event) (w : ℕ) (ticket : ℕ) (entries : List Entry) : Type 0 where
-  pub at : ℕ
-  pub taking : Taking
-  pub there : nth events at ≡ Some (Taken taking)
-  pub ticket_is : ticket ≡ taking.ticket
-  pub worker_is : w ≡ taking.worker
-  pub entries_are : entries ≡ taking.entries
+abbrev pub Live : List Event → ℕ → ℕ → List Entry → Type 0
+Live events w ticket entries = (i : ℕ) × (text : List ℕ) × (nth events i ≡ Some (Taken (record { ticket = ticket; worker = w; text = text; entries = entries })))
 
 -- and got a place
-pub record PlacedAs (events : List Event) (ticket : ℕ) (answers : List ℤ) (place : ℕ) : Type 0 where
-  pub at : ℕ
-  pub placing : Placing
-  pub there : nth events at ≡ Some (Placed placing)
-  pub ticket_is : placing.ticket ≡ ticket
-  pub place_is : placing.place ≡ place
-  pub answers_are : placing.answers ≡ answers
-
-abbrev pub HasPlace : List Event → Transaction → ℕ → Type 0
-HasPlace events t place = PlacedAs events t.ticket t.answers place
+abbrev pub HasPlace : List Event → ℕ → Transaction → ℕ → Type 0
+HasPlace events w t p =
+    (i : ℕ) × (nth events i ≡ Some (Placed (record { ticket = t.ticket; place = p; worker = w; entries = t.entries; answers = t.answers; skipped = t.skipped })))
 
 -- each ticket that was taken was placed once or is held once, or neither: whatever f is, it comes to no more
 abbrev pub placed_weight : (ℕ → ℕ) → List Event → ℕ
@@ -51,12 +39,8 @@ module _ {M : Type 0} (k : Model M) (sh : Shape) where
   -- ---- one transaction, under the split records ls
 
   -- a transaction that was taken for the worker, and whose entries passed the tests
-  pub record Admitted (events : List Event) (w ticket : ℕ) (entries : List Entry) : Type 0 where
-    pub live : Live events w ticket entries
-    pub fine : late k sh.keys w entries ≡ None
-
   abbrev pub Ready : List Event → ℕ → Transaction → Type 0
-  Ready events w t = Admitted events w t.ticket t.entries
+  Ready events w t = Live events w t.ticket t.entries × (late k sh.keys w t.entries ≡ None)
 
   module _ (ls : List SplitItem) where
     -- what it has read so far is what its entries give on the values as they are, unless a noted version has changed
@@ -81,7 +65,7 @@ module _ {M : Type 0} (k : Model M) (sh : Shape) where
       pub ready : Ready events w t
       -- on split records only the chosen operation has run
       pub chosen : AllByRecursion (λ e. strays ls e ≡ false) (ran t)
-      pub placed : (p : ℕ) → place_of t.stage ≡ Some p → HasPlace events t p
+      pub placed : (p : ℕ) → place_of t.stage ≡ Some p → HasPlace events w t p
       pub stage : StageOk ss table w t t.stage
 
   -- how many shards a worker may have merged, by phase: none yet; or some, once nothing can reach them any more

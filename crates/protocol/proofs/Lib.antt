@@ -10,11 +10,10 @@ pub mod Doing
 pub mod Allowed
 pub mod Invariant
 pub mod Frames
-pub mod Owing
 pub mod Past
-pub mod Stages
+pub mod Owing
 pub mod Shards
-pub mod Stepping
+pub mod Stages
 pub mod Commuting
 pub mod Reading
 pub mod Running

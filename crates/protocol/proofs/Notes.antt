@@ -1,12 +1,10 @@
 -- Noted versions, and the check that finds none of them stale.
-use Rattle.protocol.proofs.Base.{◌≡◌, refl, ap, subst, ◌∙◌, Bool, true, false, cond, not, ◌&&◌, ◌||◌, List, [], ◌∷◌, ◌++◌, ◌⊎◌, inl, inr, ℕ, arith, eqb, All-push, cond_both, or_cases, or_left, or_right, eqb-true, eq-eqb, false≢true, tells, Option, Some, None, option_is_some, AllByRecursion}
-use Rattle.protocol.specs.Rules.{Note, Stamp, stamp_at, owned_by, locked_out, is_noted, note, stale, first_conflict}
-use Rattle.protocol.proofs.Places.{some_none}
+use Rattle.protocol.proofs.Base.{◌≡◌, refl, subst, ◌∙◌, true, false, not, ◌&&◌, ◌||◌, List, [], ◌∷◌, ◌++◌, ◌⊎◌, inl, inr, ℕ, arith, eqb, All-push, cond_both, or_cases, or_left, or_right, eqb-true, eq-eqb, false≢true, tells, Option, Some, None, option_is_some, AllByRecursion}
+use Rattle.protocol.specs.Rules.{Note, Stamp, stamp_at, owned_by, locked_out, is_noted, note, first_conflict}
 
 -- a record that no other worker has locked is free, or the worker's own
 pub free_or_own : (o : Option ℕ) (w : ℕ) → (option_is_some o && not (owned_by o w)) ≡ false → (o ≡ None) ⊎ (o ≡ Some w)
-free_or_own None w h = inl refl
-free_or_own (Some j) w h = inr (ap Some (grind (arith, tells)))
+free_or_own o w h = grind (arith, tells)
 
 module _ (ss : List Stamp) (w : ℕ) where
   -- every noted record has its version, and no other worker has it locked
@@ -15,11 +13,7 @@ module _ (ss : List Stamp) (w : ℕ) where
 
   pub no_conflict : (ns : List Note) → first_conflict ss w ns ≡ None → AllByRecursion Current ns
   no_conflict [] h = tt
-  no_conflict (n ∷ ns) h = go (stale ss w n) refl h (no_conflict ns)
-    where
-      go : (b : Bool) → stale ss w n ≡ b → cond b (Some n.key) (first_conflict ss w ns) ≡ None → (first_conflict ss w ns ≡ None → AllByRecursion Current ns) → Current n × AllByRecursion Current ns
-      go true t p rest = absurd (some_none n.key p)
-      go false t p rest = ((eqb-true (stamp_at ss n.key).version n.version (grind arith), grind arith), rest p)
+  no_conflict (n ∷ ns) h = (grind (arith, tells), no_conflict ns (grind arith))
 
 -- what holds of all notes holds of that on a noted key
 pub noted_has : (P : Note → Type 0) (ns : List Note) (key : ℕ) → AllByRecursion P ns → is_noted ns key ≡ true → (version : ℕ) × P (record { key = key; version = version })

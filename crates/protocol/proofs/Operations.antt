@@ -1,5 +1,5 @@
 -- The operations of entries on one key, and what they make of its value.
-use Rattle.protocol.proofs.Base.{◌≡◌, refl, sym, ap, ◌∙◌, Bool, true, false, cond, List, [], ◌∷◌, ◌++◌, append_assoc, ℕ, arith, eqb, length, take, drop, take-append-drop, nth_drop, drop-drop, eqb-true, eqb-false, cond_both, true≢false, tells, Option, Some, None, option_is_some, mapped, AllByRecursion, nth}
+use Rattle.protocol.proofs.Base.{◌≡◌, refl, sym, ap, ◌∙◌, Bool, true, false, cond, List, [], ◌∷◌, ◌++◌, append_assoc, ℕ, arith, eqb, length, take, drop, take-append-drop, nth_drop, drop-drop, eqb-true, eqb-false, cond_both, tells, Option, Some, None, option_is_some, mapped, AllByRecursion, nth}
 use Rattle.protocol.specs.Rules.{Model, Operation, Action, Show, Need, Change, Entry, applied, modify, after, SplitItem, verb_of, changes, action_ops, ops_of, ops_on, apply_all, is_split, sharded, next_shard, writes}
 use Rattle.protocol.proofs.Finding.{found, not_found}
 use Rattle.protocol.proofs.Places.{nth_modify, nth_modify_other, length_modify, mapped_id, mapped_mapped, mapped_same}
@@ -14,9 +14,7 @@ module _ (w key : ℕ) where
   ops_on_append (e ∷ es) fs = ap (λ r. op_on e ++ r) (ops_on_append es fs) ∙ sym (append_assoc (op_on e) (ops_on w key es) (ops_on w key fs))
 
   idle_action : (part : ℕ) (a : Action) → option_is_some (verb_of a) ≡ false → action_ops w part a ≡ []
-  idle_action part (Show n) h = refl
-  idle_action part (Need n b) h = refl
-  idle_action part (Change v n m) h = absurd (true≢false h)
+  idle_action part a h = grind arith
 
   -- an entry that changes nothing, or another key
   pub no_op : (e : Entry) → (changes e ≡ true → e.key ≡ key → ⊥) → op_on e ≡ []
@@ -79,8 +77,7 @@ module _ {M : Type 0} (k : Model M) where
 
   module _ (w key : ℕ) where
     idle_at : (b : Bool) (o : Option M) → o ≡ mapped (apply_all k (cond b [] [])) o
-    idle_at true o = sym (mapped_none o)
-    idle_at false o = sym (mapped_none o)
+    idle_at b o = grind (arith, mapped_none o)
 
     after_at : (e : Entry) (a : Action) (vs : List M) → nth (after k w e a vs) key ≡ mapped (apply_all k (cond (eqb e.key key) (action_ops w e.part a) [])) (nth vs key)
     after_at e (Show n) vs = idle_at (eqb e.key key) (nth vs key)
@@ -99,9 +96,7 @@ module _ {M : Type 0} (k : Model M) where
         ∙ mapped_append (op_on w key e) (ops_on w key es) (nth vs key)
 
   length_after : (w : ℕ) (e : Entry) (a : Action) (vs : List M) → length (after k w e a vs) ≡ length vs
-  length_after w e (Show n) vs = refl
-  length_after w e (Need n b) vs = refl
-  length_after w e (Change v n m) vs = length_modify vs e.key _
+  length_after w e a vs = grind (arith, length_modify vs e.key)
 
   pub length_applied : (w : ℕ) (es : List Entry) (vs : List M) → length (applied k w es vs) ≡ length vs
   length_applied w [] vs = refl

@@ -1,13 +1,12 @@
 -- What happened, with one event more, and the order of what happened.
-use Rattle.protocol.proofs.Base.{◌≡◌, refl, sym, ap, subst, ◌∙◌, List, [], ◌∷◌, ◌++◌, append-nil, map, inl, inr, ℕ, zero, suc, ◌+◌, ◌≤◌, ◌<◌, arith, add-one, length, take, map-id, map_push, length_push, length_counting, get_or-range_with_len, map_counting_more, nth_getD, sum_by-append, none-some, same_Some, nth_within, nth_map, Option, Some, None, Ok, counting, mapped, sum_by, nth}
+use Rattle.protocol.proofs.Base.{◌≡◌, refl, sym, ap, subst, ◌∙◌, List, [], ◌∷◌, ◌++◌, append-nil, map, inl, inr, ℕ, zero, suc, ◌+◌, ◌≤◌, ◌<◌, arith, add-one, length, take, map-id, map_push, length_push, length_counting, get_or-range_with_len, map_counting_more, nth_getD, sum_by-append, none-some, same_Some, nth_within, nth_map, Option, Some, Ok, counting, mapped, sum_by, nth}
 use Rattle.protocol.specs.Rules.{Model, ReadAs, Transaction, Shape, Taking, Placing, Event, Taken, Placed, taking_in, placing_in, or_skip, those, takings, placings, alone, values_by, readings_by, SameSlip, readings_of}
 use Rattle.protocol.proofs.Invariant.{Live, HasPlace, Past, ideal}
 use Rattle.protocol.proofs.Places.{nth_push, nth_longer}
 
 module _ {A : Type 0} (f : Event → Option A) where
   skip_append : (o : Option A) (xs ys : List A) → or_skip o (xs ++ ys) ≡ or_skip o xs ++ ys
-  skip_append None xs ys = refl
-  skip_append (Some x) xs ys = refl
+  skip_append o xs ys = grind arith
 
   pub those_append : (es ds : List Event) → those f (es ++ ds) ≡ those f es ++ those f ds
   those_append [] ds = refl
@@ -21,8 +20,7 @@ module _ {A : Type 0} (f : Event → Option A) where
   before es i = length (those f (take i es))
 
   nth_skip : (o : Option A) (a : A) (xs ys : List A) → nth xs (length ys) ≡ Some a → nth (or_skip o xs) (length (or_skip o ys)) ≡ Some a
-  nth_skip None a xs ys h = h
-  nth_skip (Some x) a xs ys h = h
+  nth_skip o a xs ys h = grind arith
 
   found_at : (es : List Event) (i : ℕ) (e : Event) (a : A) → nth es i ≡ Some e → f e ≡ Some a → nth (those f es) (before es i) ≡ Some a
   found_at [] i e a h g = absurd (none-some e h)
@@ -30,8 +28,7 @@ module _ {A : Type 0} (f : Event → Option A) where
   found_at (d ∷ es) (suc i) e a h g = nth_skip (f d) a (those f es) (those f (take i es)) (found_at es i e a h g)
 
   skip_less : (o : Option A) (xs ys : List A) → length xs < length ys → length (or_skip o xs) < length (or_skip o ys)
-  skip_less None xs ys h = h
-  skip_less (Some x) xs ys h = omega arith
+  skip_less o xs ys h = grind arith
 
   -- what is found in a later event comes later
   pub before_later : (es : List Event) (h j : ℕ) (e : Event) (a : A) → h < j → nth es h ≡ Some e → f e ≡ Some a → before es h < before es j
@@ -94,7 +91,7 @@ module _ {M : Type 0} (k : Model M) where
             each_place = subst (λ (qs : List Placing). map (λ (q : Placing). q.place) qs ≡ counting sh.first (length qs)) (sym ps) past.each_place;
             last_ticket = let l = past.last_ticket in let m = ap length ts ∙ length_push (takings es) t in omega arith;
             last_place = past.last_place ∙ ap (λ (qs : List Placing). sh.first + length qs) (sym ps);
-            as_taken = λ i p h. taken_longer (Taken t ∷ []) i p (elim (nth_push es (Taken t) i (Placed p) h) [ inl q ↦ q | inr q ↦ let e = q.1 in absurd (let z : ◌≡◌ {A = ℕ} 0 1 = cc in omega arith) ]);
+            as_taken = λ i p h. taken_longer (Taken t ∷ []) i p (elim (nth_push es (Taken t) i (Placed p) h) [ inl q ↦ q | inr q ↦ let e = q.1 in absurd (cc) ]);
             as_read = λ i u h. elim (nth_push es (Taken t) i (Taken u) h) [ inl q ↦ past.as_read i u q | inr q ↦ let e = q.1 in let u≡t : t ≡ u = cc in subst (λ (v : Taking). ReadAs v.text (Ok v.entries)) u≡t read ];
             same_readings = subst (λ (qs : List Placing). map readings_of qs ≡ readings_by k qs (take sh.keys start)) (sym ps) past.same_readings;
           }
@@ -115,22 +112,18 @@ module _ {M : Type 0} (k : Model M) where
               | inl g ↦ taken_longer (Placed p ∷ []) i q g
               | inr g ↦
                   let e = g.1 in
-                  let same : p ≡ q = cc in (
-                    live.at,
-                    live.taking,
-                    omega (arith, nth_within es live.at (Taken live.taking) live.there, g.0),
-                    nth_longer es (Placed p ∷ []) live.at (Taken live.taking) live.there,
-                    subst (SameSlip live.taking) same (record { ticket = live.ticket_is; worker = live.worker_is; entries = live.entries_are }),
-                  )
+                  let same : p ≡ q = cc in
+                  let t : Taking = record { ticket = p.ticket; worker = p.worker; text = live.1; entries = p.entries } in
+                  (live.0, t, omega (arith, nth_within es live.0 (Taken t) live.2, g.0), nth_longer es (Placed p ∷ []) live.0 (Taken t) live.2, subst (SameSlip t) same (record { ticket = refl; worker = refl; entries = refl }))
             ];
-            as_read = λ i u h. past.as_read i u (elim (nth_push es (Placed p) i (Taken u) h) [ inl q ↦ q | inr q ↦ let e = q.1 in absurd (let z : ◌≡◌ {A = ℕ} 0 1 = cc in omega arith) ]);
+            as_read = λ i u h. past.as_read i u (elim (nth_push es (Placed p) i (Taken u) h) [ inl q ↦ q | inr q ↦ let e = q.1 in absurd (cc) ]);
             same_readings =
                 ap (map readings_of) ps ∙ map_push readings_of (placings es) p ∙ (λ i. past.same_readings i ++ record { answers = sym answers i; skipped = sym skipped i } ∷ [])
                 ∙ sym (ap (λ (qs : List Placing). readings_by k qs vs) ps ∙ readings_append (placings es) (p ∷ []) vs);
           }
 
       -- no place is above the last one
-      pub placed_low : (t : Transaction) (p : ℕ) → HasPlace es t p → p ≤ place
-      placed_low t p h =
-          let c = counted_at placing_in (λ (q : Placing). q.place) sh.first (length (placings es)) es h.at (Placed h.placing) h.placing past.each_place h.there refl in
-          omega (arith, c.0, c.1, h.place_is, past.last_place)
+      pub placed_low : (w : ℕ) (t : Transaction) (p : ℕ) → HasPlace es w t p → p ≤ place
+      placed_low w t p h =
+          let c = counted_at placing_in (λ (q : Placing). q.place) sh.first (length (placings es)) es h.0 _ _ past.each_place h.1 refl in
+          omega (arith, c.0, c.1, past.last_place)

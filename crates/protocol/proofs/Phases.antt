@@ -1,5 +1,5 @@
 -- Turns that change the phase, and the opening.
-use Rattle.protocol.proofs.Base.{◌≡◌, refl, sym, ap, subst, ◌∙◌, Bool, true, false, not, List, [], ◌∷◌, ◌++◌, map, ◌⊎◌, inl, inr, ℕ, zero, suc, ◌+◌, ◌*◌, ◌≤◌, ◌<◌, arith, eqb, length, get_or, replicate, length-replicate, none-some, nth_within, All-weaker, get_or_past, cases_Bool, and_parts, eqb-true, leb-true, false≢true, tells, Some, None, mapped, nth}
+use Rattle.protocol.proofs.Base.{◌≡◌, refl, sym, ap, subst, ◌∙◌, Bool, true, false, not, List, [], ◌∷◌, ◌++◌, map, ◌⊎◌, inl, inr, ℕ, zero, suc, ◌+◌, ◌*◌, ◌≤◌, ◌<◌, arith, eqb, length, get_or, replicate, length-replicate, none-some, nth_within, All-weaker, cases_Bool, eqb-true, leb-true, false≢true, tells, Some, None, mapped, nth}
 use Rattle.protocol.specs.Rules.{Model, Operation, Phase, Joined, Closing, Split, Merging, SplitItem, Stamp, when, first_of, good_figures, Transaction, Shape, State, Row, idle, row_at, apply_all, split_in, is_split, shard_at, all_acknowledged, acknowledging, merging, next_phase, good_from, good_split, fresh_all, opened, refuse_open, World, may_rest}
 use Rattle.protocol.proofs.Frames.{ready_longer, hand_grows}
 use Rattle.protocol.proofs.Invariant.{MergedOk, RowOk, pending, owed, ShardOk, Kept, Inv}
@@ -8,6 +8,7 @@ use Rattle.protocol.proofs.Owing.{gathered_same, gathered_none}
 use Rattle.protocol.proofs.Past.{past_none, ideal_none}
 use Rattle.protocol.proofs.Places.{some_none, nth_take, nth_there, nth_modify_other, length_modify}
 use Rattle.protocol.proofs.Shards.{fresh_keeps, fresh_shard, split_item}
+use Rattle.protocol.proofs.Soundness.{row_map, each_done, all_empty}
 use Rattle.protocol.proofs.Splits.{split_found, found_at}
 
 -- what holds of each of many that are the same, and of what is past them
@@ -19,18 +20,6 @@ each_same P (suc n) (suc i) a d p q = each_same P n i a d p q
 -- no test of the opening found anything
 fine_figures : (a b : Bool) → first_of (when (not a) (1 ∷ []) ∷ when (not b) (2 ∷ []) ∷ []) ≡ None → (a ≡ true) × (b ≡ true)
 fine_figures a b h = grind arith
-
--- a row of a list where each is changed
-row_map : (f : Row → Row) → f idle ≡ idle → (rows : List Row) (w : ℕ) → row_at (map f rows) w ≡ f (row_at rows w)
-row_map f e [] w = sym e
-row_map f e (r ∷ rows) zero = refl
-row_map f e (r ∷ rows) (suc w) = row_map f e rows w
-
--- where all have acknowledged, each has
-each_done : (rows : List Row) (w : ℕ) → all_acknowledged rows ≡ true → w < length rows → (row_at rows w).acknowledged ≡ true
-each_done [] w h u = absurd (omega arith)
-each_done (r ∷ rows) zero h u = (and_parts r.acknowledged _ h).0
-each_done (r ∷ rows) (suc w) h u = each_done rows w (and_parts r.acknowledged _ h).1 (omega arith)
 
 module _ {M : Type 0} (k : Model M) (sh : Shape) (start : List M) where
   idle_ok : (w : ℕ) → RowOk k sh (opened sh) start [] w idle
@@ -108,8 +97,8 @@ module _ {M : Type 0} (k : Model M) (sh : Shape) (start : List M) where
           rows = λ w. record {
             hand = λ t e.
                 let c = sym (m.keeps w).0 ∙ e in
-                rw (← m.hands w t c) (hand_grows k sh split s.stamps s.stamps x.table table x.events [] w
-                (record { up = λ key. omega arith; still = λ key u f e. m.records key u }) t (λ key u h. refl) ((old.rows w).hand t c));
+                rw (← m.hands w t c) (hand_grows k sh split s.stamps s.stamps x.table table
+                (record { up = λ key. omega arith; still = λ key u f e. m.records key u }) w t x.events [] (λ key u h. refl) ((old.rows w).hand t c));
             stash = rw (m.keeps w).1 (All-weaker _ _ (ready_longer k sh x.events [] w) (row_at s.rows w).stash (old.rows w).stash);
             merged = (m.merged w).0;
           };
@@ -163,7 +152,7 @@ module _ {M : Type 0} (k : Model M) (sh : Shape) (start : List M) where
       good = (inv.kept.sized.split_good, inv.kept.sized.split_few, refl);
       records = λ key u. refl;
       keeps = λ w. rw (row_map (acknowledging false) refl s.rows w) (refl, refl);
-      hands = λ w t e. absurd (some_none t (sym e ∙ empty w));
+      hands = λ w t e. absurd (some_none t (sym e ∙ all_empty sh s inv.sound done w));
       merged = λ w. elim either [
         | inl e ↦ rw e (ap (λ (r : Row). r.merged) (row_map (acknowledging false) refl s.rows w) ∙ merged_in Closing (phase ∙ e) w, λ h. absurd (grind arith))
         | inr e ↦ rw e (tt, λ h. absurd (grind arith))
@@ -172,9 +161,6 @@ module _ {M : Type 0} (k : Model M) (sh : Shape) (start : List M) where
       shards = λ h. inv.kept.values.shards (λ e. grind arith);
     })
       where
-        empty : (w : ℕ) → (row_at s.rows w).current ≡ None
-        empty w = grind (arith, each_done s.rows w done, inv.sound.resting w, get_or_past s.rows w idle)
-
         -- a key that is split has been merged by all
         none : (w key : ℕ) → w < sh.workers → ops w key ≡ []
         none w key u = elim (cases_Bool (is_split split key)) [

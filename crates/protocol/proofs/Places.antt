@@ -1,5 +1,5 @@
 -- Lists by place: one element changed, the front, and elements of joined lists.
-use Rattle.protocol.proofs.Base.{◌≡◌, refl, sym, ap, ◌∙◌, List, [], ◌∷◌, ◌++◌, ◌⊎◌, inl, inr, ℕ, zero, suc, ◌<◌, arith, length, get_or, set, take, drop, none-some, same_Some, nth_within, nth_left, get_or-set_same, get_or-set_other, cases_eq, Option, Some, None, mapped, AllByRecursion, nth}
+use Rattle.protocol.proofs.Base.{nth_getD, nth_past, get_or_past, length-take, get_or_from_slice_get, take-suc, drop-cons, ◌≡◌, refl, sym, ap, ◌∙◌, List, [], ◌∷◌, ◌++◌, ◌⊎◌, inl, inr, ℕ, zero, suc, ◌<◌, arith, length, get_or, set, take, drop, none-some, same_Some, nth_within, nth_left, get_or-set_same, get_or-set_other, cases_eq, Option, Some, None, mapped, AllByRecursion, nth}
 use Rattle.protocol.specs.Rules.{modify}
 
 module _ {A : Type 0} where
@@ -20,17 +20,7 @@ module _ {A : Type 0} where
 
   -- lists that agree at a place agree there still
   pub modify_agrees : (xs ys : List A) (i j : ℕ) (f : A → A) → nth xs j ≡ nth ys j → nth (modify i f xs) j ≡ nth (modify i f ys) j
-  modify_agrees [] [] i j f h = refl
-  modify_agrees [] (y ∷ ys) i zero f h = absurd (none-some y h)
-  modify_agrees [] (y ∷ ys) zero (suc j) f h = h
-  modify_agrees [] (y ∷ ys) (suc i) (suc j) f h = modify_agrees [] ys i j f h
-  modify_agrees (x ∷ xs) [] i zero f h = absurd (some_none x h)
-  modify_agrees (x ∷ xs) [] zero (suc j) f h = h
-  modify_agrees (x ∷ xs) [] (suc i) (suc j) f h = modify_agrees xs [] i j f h
-  modify_agrees (x ∷ xs) (y ∷ ys) zero zero f h = ap (mapped f) h
-  modify_agrees (x ∷ xs) (y ∷ ys) (suc i) zero f h = h
-  modify_agrees (x ∷ xs) (y ∷ ys) zero (suc j) f h = h
-  modify_agrees (x ∷ xs) (y ∷ ys) (suc i) (suc j) f h = modify_agrees xs ys i j f h
+  modify_agrees xs ys i j f h = grind (arith, nth_modify xs i f, nth_modify ys i f, nth_modify_other xs i j f, nth_modify_other ys i j f)
 
   pub length_modify : (xs : List A) (i : ℕ) (f : A → A) → length (modify i f xs) ≡ length xs
   length_modify [] i f = refl
@@ -38,16 +28,10 @@ module _ {A : Type 0} where
   length_modify (x ∷ xs) (suc i) f = ap suc (length_modify xs i f)
 
   pub get_or_modify : (xs : List A) (i : ℕ) (f : A → A) (d : A) → i < length xs → get_or (modify i f xs) i d ≡ f (get_or xs i d)
-  get_or_modify [] i f d h = absurd (omega arith)
-  get_or_modify (x ∷ xs) zero f d h = refl
-  get_or_modify (x ∷ xs) (suc i) f d h = get_or_modify xs i f d (omega arith)
+  get_or_modify xs i f d h = grind (arith, nth_getD, nth_modify xs i f, length_modify xs i f)
 
   pub get_or_modify_other : (xs : List A) (i j : ℕ) (f : A → A) (d : A) → (j ≡ i → ⊥) → get_or (modify i f xs) j d ≡ get_or xs j d
-  get_or_modify_other [] i j f d h = refl
-  get_or_modify_other (x ∷ xs) zero zero f d h = absurd (h refl)
-  get_or_modify_other (x ∷ xs) zero (suc j) f d h = refl
-  get_or_modify_other (x ∷ xs) (suc i) zero f d h = refl
-  get_or_modify_other (x ∷ xs) (suc i) (suc j) f d h = get_or_modify_other xs i j f d (λ e. h (ap suc e))
+  get_or_modify_other xs i j f d h = grind (arith, nth_getD, nth_past, get_or_past, nth_modify_other xs i j f, length_modify xs i f)
 
   pub nth_take : (xs : List A) (n i : ℕ) → i < n → nth (take n xs) i ≡ nth xs i
   nth_take xs zero i h = absurd (omega arith)
@@ -56,10 +40,7 @@ module _ {A : Type 0} where
   nth_take (x ∷ xs) (suc n) (suc i) h = nth_take xs n i (omega arith)
 
   pub nth_taken : (xs : List A) (n i : ℕ) (x : A) → nth (take n xs) i ≡ Some x → nth xs i ≡ Some x
-  nth_taken xs zero i x h = absurd (none-some x h)
-  nth_taken [] (suc n) i x h = absurd (none-some x h)
-  nth_taken (y ∷ xs) (suc n) zero x h = h
-  nth_taken (y ∷ xs) (suc n) (suc i) x h = nth_taken xs n i x h
+  nth_taken xs n i x h = sym (nth_take xs n i (omega (arith, nth_within (take n xs) i x h, length-take n xs))) ∙ h
 
   pub nth_there : (xs : List A) (i : ℕ) → i < length xs → (x : A) × (nth xs i ≡ Some x)
   nth_there [] i h = absurd (omega arith)
@@ -88,14 +69,10 @@ module _ {A : Type 0} where
 
   -- one element more
   pub take_one_more : (xs : List A) (n : ℕ) (x : A) → nth xs n ≡ Some x → take (suc n) xs ≡ take n xs ++ (x ∷ [])
-  take_one_more [] n x h = absurd (none-some x h)
-  take_one_more (y ∷ xs) zero x h = ap (λ r. r ∷ []) (same_Some y x h)
-  take_one_more (y ∷ xs) (suc n) x h = ap (λ r. y ∷ r) (take_one_more xs n x h)
+  take_one_more xs n x h = let l = nth_within xs n x h in let g = get_or_from_slice_get xs n x x h in rw (take-suc xs n x l, g) refl
 
   pub drop_one_more : (xs : List A) (n : ℕ) (x : A) → nth xs n ≡ Some x → drop n xs ≡ x ∷ drop (suc n) xs
-  drop_one_more [] n x h = absurd (none-some x h)
-  drop_one_more (y ∷ xs) zero x h = ap (λ r. r ∷ xs) (same_Some y x h)
-  drop_one_more (y ∷ xs) (suc n) x h = drop_one_more xs n x h
+  drop_one_more xs n x h = let l = nth_within xs n x h in let g = get_or_from_slice_get xs n x x h in rw (drop-cons xs n x l, g) refl
 
   -- what holds of all elements holds of each
   pub all_nth : (P : A → Type 0) (xs : List A) (i : ℕ) (x : A) → AllByRecursion P xs → nth xs i ≡ Some x → P x
@@ -115,13 +92,10 @@ module _ {A : Type 0} where
   all_both P Q (x ∷ xs) p q = ((p.0, q.0), all_both P Q xs p.1 q.1)
 
   pub mapped_id : (o : Option A) → mapped (λ (x : A). x) o ≡ o
-  mapped_id None = refl
-  mapped_id (Some x) = refl
+  mapped_id o = grind arith
 
   pub mapped_mapped : (f g : A → A) (o : Option A) → mapped g (mapped f o) ≡ mapped (λ x. g (f x)) o
-  mapped_mapped f g None = refl
-  mapped_mapped f g (Some x) = refl
+  mapped_mapped f g o = grind arith
 
   pub mapped_same : (f g : A → A) → ((x : A) → f x ≡ g x) → (o : Option A) → mapped f o ≡ mapped g o
-  mapped_same f g h None = refl
-  mapped_same f g h (Some x) = ap Some (h x)
+  mapped_same f g h o = grind (arith, h)

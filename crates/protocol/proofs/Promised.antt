@@ -1,6 +1,6 @@
 -- The promise, from what holds of every world that turns lead to.
 use Rattle.protocol.proofs.Base.{◌≡◌, refl, sym, ap, subst, ◌∙◌, Bool, true, cond, not, List, [], ◌∷◌, map, inl, inr, ℕ, zero, suc, ◌+◌, ◌≤◌, ◌<◌, arith, eqb, ℤ, length, take, length-take, none-some, sum_by-cons, get_or-le-sum_by, cases_order, and_parts, eqb-true, eq-eqb, not-true, false≢true, tells, Option, Some, None, Result, Ok, Err, counting, option_is_some, mapped, sum_by, nth}
-use Rattle.protocol.specs.Rules.{Model, Laws, Entry, ran as alone_ran, Outcome, Committed, Conflict, TurnedAway, Phase, Joined, Stage, Running, Locking, Checking, Writing, Sharding, Ended, Stamp, outcome_code, first_of, Transaction, Shape, State, idle, row_at, stamp_at, end_of, place_in, place_of, apply_all, split_in, is_split, first_conflict, Call, Take, Draw, Step, Acknowledge, Merge, Collect, AnnounceSplit, AnnounceMerging, Release, Gave, Taking, Placing, Event, Taken, Placed, outcome_of, has_ended, answers_of, outcome_told, placing, placings_at, quiet, refuse_open, tests, turn_by, turn, taking_in, placing_in, placings, takings, World, alone, values_by, times_placed, RightlyTold, Kept, Promise, in_row, in_hand}
+use Rattle.protocol.specs.Rules.{Model, Laws, Entry, ran as alone_ran, Outcome, Committed, Conflict, TurnedAway, Phase, Joined, Stage, Running, Locking, Checking, Writing, Sharding, Ended, Stamp, outcome_code, first_of, Transaction, Shape, State, idle, row_at, stamp_at, end_of, place_in, place_of, apply_all, split_in, is_split, Call, Take, Collect, Gave, Taking, Placing, Event, Taken, Placed, outcome_of, has_ended, answers_of, outcome_told, quiet, refuse_open, tests, turn_by, turn, taking_in, placing_in, placings, takings, World, alone, values_by, times_placed, RightlyTold, Kept, Promise, in_row, in_hand}
 use Rattle.serial.proofs.Alone.{runs_alone}
 use Rattle.protocol.proofs.Allowed.{none_is, allowed}
 use Rattle.protocol.proofs.Invariant.{taken_weight, Past, owed, ideal, Inv}
@@ -10,7 +10,6 @@ use Rattle.protocol.proofs.Past.{before_later, counted_at}
 use Rattle.protocol.proofs.Phases.{opens_ok}
 use Rattle.protocol.proofs.Places.{nth_take, same_by_nth}
 use Rattle.protocol.proofs.Turning.{unchanged, run_inv}
-use Rattle.protocol.specs.Turns.{placings as placings_of}
 
 ended : (g : Stage) → option_is_some (end_of g) ≡ true → (o : Outcome) × (g ≡ Ended o)
 ended Running h = absurd (false≢true h)
@@ -107,7 +106,7 @@ module _ {M : Type 0} (k : Model M) where
         → RightlyTold x.events n (cond (option_is_some (place_in o)) t.answers []) o
     told w n t l held is (Committed p) g =
         let h = ((inv.kept.rows w).hand t held).placed p (ap place_of g) in
-        (h.at, h.placing, h.there, h.ticket_is ∙ is, h.place_is, h.answers_are)
+        (h.0, _, h.1, is, refl, refl)
     told w n t l held is (Conflict key) g = (unplaced w n t l held is (ap place_of g), refl)
     told w n t l held is TurnedAway g = (unplaced w n t l held is (ap place_of g), refl)
 
@@ -130,7 +129,7 @@ module _ {M : Type 0} (k : Model M) where
             ends t held l (eqb-true t.ticket n a.0) o.0 o.1 (subst (λ (g : Stage). Gave (outcome_told (end_of g)) (cond (option_is_some (place_of g)) t.answers []) ≡ Gave c zs) o.1 e)
 
         go : (o : Option (List ℕ)) → first_of (tests k sh s lent (Collect w n buffer)) ≡ o → (turn_by k sh s lent (Collect w n buffer) o).answer ≡ Gave c zs → (o : Outcome) × (c ≡ outcome_code o) × RightlyTold x.events n zs o
-        go (Some d) h e = absurd (let z : ◌≡◌ {A = ℕ} 0 1 = cc in omega arith)
+        go (Some d) h e = absurd (cc)
         go None h e = let a = allowed k sh s lent (Collect w n buffer) h in hands (row_at s.rows w).current refl a.0 a.1 e
 
     pub kept : Kept k sh start x
@@ -160,47 +159,16 @@ module _ {M : Type 0} (k : Model M) (sh : Shape) (s : State) (lent : List M) whe
     where
       go : (o : Option (List ℕ)) (p : Result (List Entry) (List ℕ)) → (turn_by k sh s lent (Take w text p) o).answer ≡ Gave c zs
           → (n : ℕ) × (es : List Entry) × (c ≡ n ∷ []) × (p ≡ Ok es) × ((turn_by k sh s lent (Take w text p) o).events ≡ Taken (record { ticket = n; worker = w; text = text; entries = es }) ∷ [])
-      go (Some d) p h = absurd (let z : ◌≡◌ {A = ℕ} 0 1 = cc in omega arith)
-      go None (Err d) h = absurd (let z : ◌≡◌ {A = ℕ} 0 1 = cc in omega arith)
+      go (Some d) p h = absurd (cc)
+      go None (Err d) h = absurd (cc)
       go None (Ok es) h = let e : suc s.ticket ∷ [] ≡ c = cc in (suc s.ticket, es, sym e, refl, refl)
 
-  -- a step takes nothing
-  steps_take_none : (w place : ℕ) (h : Option Transaction) (i : ℕ) (t : Taking) → nth (placings_of w s.stamps place h) i ≡ Some (Taken t) → ⊥
-  steps_take_none w place None i t e = none-some _ e
-  steps_take_none w place (Some u) i t e = stage u.stage e
-    where
-      check : (o : Option ℕ) (j : ℕ) → nth (placing w place u o) j ≡ Some (Taken t) → ⊥
-      check None zero q = let z : ◌≡◌ {A = ℕ} 0 1 = cc in omega arith
-      check None (suc j) q = none-some _ q
-      check (Some key) j q = none-some _ q
-
-      stage : (g : Stage) → nth (placings_at w s.stamps place u g) i ≡ Some (Taken t) → ⊥
-      stage Running q = none-some _ q
-      stage (Locking c) q = none-some _ q
-      stage Checking q = check (first_conflict s.stamps w u.noted) i q
-      stage (Writing p c) q = none-some _ q
-      stage (Sharding p j) q = none-some _ q
-      stage (Ended o) q = none-some _ q
-
   of_others : (c : Call) (t : Taking) (i : ℕ) → nth (turn k sh s lent c).events i ≡ Some (Taken t) → c ≡ Take t.worker t.text (Ok t.entries)
-  of_others c t i = go (first_of (tests k sh s lent c)) c
+  of_others c t = go (first_of (tests k sh s lent c))
     where
-      only : (u : Taking) (j : ℕ) → nth (Taken u ∷ []) j ≡ Some (Taken t) → u ≡ t
-      only u zero q = cc
-      only u (suc j) q = absurd (none-some _ q)
-
-      go : (o : Option (List ℕ)) (d : Call) → nth (turn_by k sh s lent d o).events i ≡ Some (Taken t) → d ≡ Take t.worker t.text (Ok t.entries)
-      go (Some code) d h = absurd (none-some _ h)
-      go None (Take w text (Err d)) h = absurd (none-some _ h)
-      go None (Take w text (Ok es)) h = ap (λ (u : Taking). Take u.worker u.text (Ok u.entries)) (only _ i h)
-      go None (Step w) h = absurd (steps_take_none w s.place (row_at s.rows w).current i t h)
-      go None (Draw w) h = absurd (none-some _ h)
-      go None (Acknowledge w) h = absurd (none-some _ h)
-      go None (Merge w) h = absurd (none-some _ h)
-      go None (Collect w ticket buffer) h = absurd (none-some _ h)
-      go None (AnnounceSplit ls) h = absurd (none-some _ h)
-      go None AnnounceMerging h = absurd (none-some _ h)
-      go None (Release p) h = absurd (none-some _ h)
+      go : (o : Option (List ℕ)) (i : ℕ) → nth (turn_by k sh s lent c o).events i ≡ Some (Taken t) → c ≡ Take t.worker t.text (Ok t.entries)
+      go o zero h = grind arith
+      go o (suc i) h = grind arith
 
 pub promised : {M : Type 0} (k : Model M) → Laws k → Promise k
 promised k laws = record {

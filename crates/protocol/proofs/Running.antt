@@ -1,32 +1,22 @@
 -- Steps before the check: an entry runs or is stashed, a record is locked, or the transaction meets a conflict.
-use Rattle.protocol.proofs.Base.{◌≡◌, refl, sym, ap, subst, ◌∙◌, true, false, ◌&&◌, List, [], ◌∷◌, ◌++◌, append-nil, map, ℕ, zero, suc, ◌<◌, arith, ltb, length, none-some, same_Some, All-push, length-map, cond_both, Option, Some, None, AllByRecursion, nth}
-use Rattle.protocol.specs.Rules.{Model, Entry, applied, modify, Outcome, Conflict, TurnedAway, Phase, Joined, Closing, Split, Merging, SplitItem, Running, Locking, Ended, Stamp, Told, Transaction, Row, Shape, State, row_at, stamp_at, place_in, place_of, at_stage, looks, strays, split_in, after_running, locked_out, lock_for, free_own, clash, reading, Moved, World}
+use Rattle.protocol.proofs.Base.{nth_getD, nth_past, get_or_past, ◌≡◌, refl, sym, ap, subst, ◌∙◌, true, false, List, [], ◌∷◌, ◌++◌, append-nil, map, ℕ, zero, suc, ◌<◌, arith, ltb, length, same_Some, none-some, All-push, length-map, cond_both, Option, Some, None, AllByRecursion, nth}
+use Rattle.protocol.specs.Rules.{Model, Entry, applied, modify, Outcome, Conflict, TurnedAway, SplitItem, Running, Locking, Ended, Stamp, Told, Transaction, Row, Shape, State, row_at, stamp_at, place_in, place_of, at_stage, strays, split_in, after_running, lock_for, free_own, clash, reading, Moved, World}
 use Rattle.protocol.proofs.Doing.{moved}
-use Rattle.protocol.proofs.Frames.{Grows, faithful_grows, after, moves}
-use Rattle.protocol.proofs.Invariant.{Ready, StageOk, HandOk, MergedOk, pending, Kept, Inv}
-use Rattle.protocol.proofs.Owing.{values_stay}
-use Rattle.protocol.proofs.Past.{ideal_none, past_none}
-use Rattle.protocol.proofs.Places.{some_none, length_modify}
+use Rattle.protocol.proofs.Frames.{faithful_grows, after, merged_step, Goes}
+use Rattle.protocol.proofs.Invariant.{Ready, StageOk, HandOk, pending, Kept, Inv}
+use Rattle.protocol.proofs.Owing.{stays_owing}
+use Rattle.protocol.proofs.Places.{nth_modify, nth_modify_other, length_modify}
 use Rattle.protocol.proofs.Reading.{unplaced_owes, Early, early, locks_on, reads_on}
-use Rattle.protocol.proofs.Stepping.{Goes}
 use Rattle.protocol.specs.State.{ran}
 
 -- locking and freeing leave the versions
 locked_version : (w i key : ℕ) (ss : List Stamp) → (stamp_at (modify i (lock_for w) ss) key).version ≡ (stamp_at ss key).version
-locked_version w i key [] = refl
-locked_version w zero zero (st ∷ ss) = refl
-locked_version w zero (suc key) (st ∷ ss) = refl
-locked_version w (suc i) zero (st ∷ ss) = refl
-locked_version w (suc i) (suc key) (st ∷ ss) = locked_version w i key ss
+locked_version w i key ss = grind (arith, nth_getD, nth_past, get_or_past, nth_modify ss i (lock_for w), nth_modify_other ss i key (lock_for w), length_modify ss i (lock_for w))
 
 freed_version : (w key : ℕ) (ss : List Stamp) → (stamp_at (map (free_own w) ss) key).version ≡ (stamp_at ss key).version
 freed_version w key [] = refl
 freed_version w zero (st ∷ ss) = refl
 freed_version w (suc key) (st ∷ ss) = freed_version w key ss
-
--- a row with another hand and stash
-abbrev holding : Row → Option Transaction → List Transaction → Row
-holding r o ts = record { current = o; stash = ts; acknowledged = r.acknowledged; merged = r.merged }
 
 module _ {M : Type 0} (k : Model M) (sh : Shape) (start : List M) (x : World M) (inv : Inv k sh start x) (w : ℕ) (inside : w < sh.workers)
     (t : Transaction) (held : (row_at x.state.rows w).current ≡ Some t) where
@@ -42,68 +32,43 @@ module _ {M : Type 0} (k : Model M) (sh : Shape) (start : List M) (x : World M) 
   abbrev to : Transaction × List Stamp → Moved M
   to = moved k sh.keys ls w s.stamps s.place x.table t
 
-  -- the worlds in which the stamps and the worker's row have changed at most
-  abbrev Leaves : List Stamp → Row → Type 0
-  Leaves ss r = Kept k sh start (after k sh start x w s.ticket s.place ss r x.table [])
-
-  -- what holds before of the transaction, of the shards that are merged, and of what is owed
   hand : HandOk k sh ls s.stamps x.table x.events w t
   hand = (inv.kept.rows w).hand t held
-
-  merged_still : (p : Phase) (items : ℕ) (o : Option Transaction) (ts : List Transaction) → MergedOk k sh p items row → MergedOk k sh p items (holding row o ts)
-  merged_still Joined items o ts h = tt
-  merged_still Closing items o ts h = h
-  merged_still Split items o ts h = h
-  merged_still Merging items o ts h = (λ l. absurd (some_none t (sym held ∙ h.0 l)), h.1)
 
   owed_before : place_of t.stage ≡ None → (key : ℕ) → pending k sh ls w key row.current ≡ []
   owed_before unplaced key = ap (pending k sh ls w key) held ∙ unplaced_owes k sh ls w key (ran t) t.stage unplaced
 
   -- the stamps may change, but not the versions
   module _ (ss : List Stamp) (len : length ss ≡ length s.stamps) (same : (key : ℕ) → (stamp_at ss key).version ≡ (stamp_at s.stamps key).version) where
-    grows : Grows k sh ls s.stamps ss x.table x.table
-    grows = record { up = λ key. omega (arith, same key); still = λ key l f e. refl }
-
     -- a step after which the worker has another hand and stash, and owes what it owed
-    stays : (o : Option Transaction) (ts : List Transaction) → ((u : Transaction) → o ≡ Some u → HandOk k sh ls ss x.table x.events w u)
-        → AllByRecursion (Ready k sh x.events w) ts → ((key : ℕ) → pending k sh ls w key o ≡ pending k sh ls w key row.current) → Leaves ss (holding row o ts)
-    stays o ts hands stash owes = moves k sh start x w s.ticket s.place ss (holding row o ts) x.table [] inv inside (record {
-      table_len = refl;
-      stamps_len = len;
-      grows = grows;
-      versions = λ key. omega (arith, same key, inv.kept.sized.versions key);
-      locked = λ key j d e. same key;
-      past = past_none k sh start x.events s.ticket s.place inv.kept.past;
-      hand = λ u e. subst (λ es. HandOk k sh ls ss x.table es w u) (sym (append-nil x.events)) (hands u e);
-      stash = subst (λ es. AllByRecursion (Ready k sh es w) ts) (sym (append-nil x.events)) stash;
-      merged = merged_still s.phase (length s.split) o ts (inv.kept.rows w).merged;
-      values = values_stay k sh start x inv w s.ticket s.place ss (holding row o ts) [] inside owes refl (ideal_none k sh start x.events);
-    })
-
-    -- another hand alone
-    keeps : (u : Transaction) → HandOk k sh ls ss x.table x.events w u → ((key : ℕ) → pending k sh ls w key (Some u) ≡ pending k sh ls w key row.current)
-        → Leaves ss (holding row (Some u) row.stash)
-    keeps u ok owes = stays (Some u) row.stash (λ v e. subst (HandOk k sh ls ss x.table x.events w) (same_Some u v e) ok) (inv.kept.rows w).stash owes
+    stays : (o : Option Transaction) (ts : List Transaction) → ((u : Transaction) → o ≡ Some u → HandOk k sh ls ss x.table x.events w u) → AllByRecursion (Ready k sh x.events w) ts
+        → ((key : ℕ) → pending k sh ls w key o ≡ pending k sh ls w key row.current)
+        → Kept k sh start (after k sh start x w s.ticket s.place ss (record { current = o; stash = ts; acknowledged = row.acknowledged; merged = row.merged }) x.table [])
+    stays o ts hands stash owes = stays_owing k sh start x inv w ss _ inside len same
+        (λ u e. subst (λ es. HandOk k sh ls ss x.table es w u) (sym (append-nil x.events)) (hands u e)) (subst (λ es. AllByRecursion (Ready k sh es w) ts) (sym (append-nil x.events)) stash)
+        (merged_step k sh s.phase (length s.split) row _ t held refl refl (inv.kept.rows w).merged) refl owes
 
     -- a transaction that has no place goes on without one
-    goes_on : (u : Transaction) → place_of t.stage ≡ None → Early k sh ls w ss x.table x.events u → Leaves ss (holding row (Some u) row.stash)
-    goes_on u unplaced ok = keeps u ok.0 (λ key. unplaced_owes k sh ls w key (ran u) u.stage ok.1 ∙ sym (owed_before unplaced key))
+    goes_on : (u : Transaction) → place_of t.stage ≡ None → Early k sh ls w ss x.table x.events u
+        → Kept k sh start (after k sh start x w s.ticket s.place ss (record { current = Some u; stash = row.stash; acknowledged = row.acknowledged; merged = row.merged }) x.table [])
+    goes_on u unplaced ok = stays (Some u) row.stash (λ v e. subst (HandOk k sh ls ss x.table x.events w) (same_Some u v e) ok.0) (inv.kept.rows w).stash
+        (λ key. unplaced_owes k sh ls w key (ran u) u.stage ok.1 ∙ sym (owed_before unplaced key))
 
-    -- the transaction ends without a place
-    ends : (o : Outcome) → place_in o ≡ None → place_of t.stage ≡ None → Leaves ss (holding row (Some (at_stage t (Ended o))) row.stash)
+    -- or ends without one
+    ends : (o : Outcome) → place_in o ≡ None → place_of t.stage ≡ None
+        → Kept k sh start (after k sh start x w s.ticket s.place ss (record { current = Some (at_stage t (Ended o)); stash = row.stash; acknowledged = row.acknowledged; merged = row.merged }) x.table [])
     ends o none unplaced = goes_on (at_stage t (Ended o)) unplaced (early k sh ls w ss x.table x.events t hand.ready hand.chosen (Ended o) none tt)
 
   pub rests_ok : Goes k sh start x w (to (t, s.stamps)) []
-  rests_ok = keeps s.stamps refl (λ _. refl) t hand (λ key. ap (pending k sh ls w key) (sym held))
+  rests_ok = stays s.stamps refl (λ _. refl) (Some t) row.stash (λ v e. subst (HandOk k sh ls s.stamps x.table x.events w) (same_Some t v e) hand) (inv.kept.rows w).stash (λ key. ap (pending k sh ls w key) (sym held))
 
-  pub reads_ok : (e : Entry) → t.stage ≡ Running → nth t.entries t.done ≡ Some e → strays ls e ≡ false → (looks e && locked_out s.stamps w e.key) ≡ false
-      → Goes k sh start x w (to (reading k ls w s.stamps (applied k w (ran t) x.table) t e, s.stamps)) []
-  reads_ok e running next fits free =
+  pub reads_ok : (e : Entry) → t.stage ≡ Running → nth t.entries t.done ≡ Some e → strays ls e ≡ false → Goes k sh start x w (to (reading k ls w s.stamps (applied k w (ran t) x.table) t e, s.stamps)) []
+  reads_ok e running next fits =
       let g = subst (StageOk k sh ls s.stamps x.table w t) running hand.stage in
       goes_on s.stamps refl (λ _. refl) _ (ap place_of running) (reads_on k sh ls w s.stamps x.table x.events t e next fits hand.ready hand.chosen g.0 g.1)
 
   pub strays_ok : t.stage ≡ Running → Goes k sh start x w (record { transaction = t; stamps = s.stamps; place = s.place; table = x.table; aside = true }) []
-  strays_ok running = cond_both (ltb (length row.stash) 4) _ _ (λ (q : Told × Row). Leaves s.stamps q.1)
+  strays_ok running = cond_both (ltb (length row.stash) 4) _ _ (λ (q : Told × Row). Kept k sh start (after k sh start x w s.ticket s.place s.stamps q.1 x.table []))
       (λ _. stays s.stamps refl (λ _. refl) None (row.stash ++ (t ∷ [])) (λ u e. absurd (none-some u e))
       (All-push (Ready k sh x.events w) row.stash t (inv.kept.rows w).stash hand.ready) (λ key. sym (owed_before (ap place_of running) key)))
       (λ _. ends s.stamps refl (λ _. refl) TurnedAway refl (ap place_of running))
@@ -111,13 +76,10 @@ module _ {M : Type 0} (k : Model M) (sh : Shape) (start : List M) (x : World M) 
   pub clashes_ok : (key : ℕ) → place_of t.stage ≡ None → Goes k sh start x w (to (clash w s.stamps t key)) []
   clashes_ok key unplaced = ends (map (free_own w) s.stamps) (length-map s.stamps (free_own w)) (λ j. freed_version w j s.stamps) (Conflict key) refl unplaced
 
-  pub locks_ok : (key : ℕ) → t.stage ≡ Locking key → locked_out s.stamps w key ≡ false
-      → Goes k sh start x w (to (at_stage t (after_running ls (ran t) (suc key)), modify key (lock_for w) s.stamps)) []
-  locks_ok key locking free =
+  pub locks_ok : (key : ℕ) → t.stage ≡ Locking key → Goes k sh start x w (to (at_stage t (after_running ls (ran t) (suc key)), modify key (lock_for w) s.stamps)) []
+  locks_ok key locking =
       let ss = modify key (lock_for w) s.stamps in
-      let len = length_modify s.stamps key (lock_for w) in
       let same = λ (j : ℕ). locked_version w key j s.stamps in
       let g = subst (StageOk k sh ls s.stamps x.table w t) locking hand.stage in
-      let f = faithful_grows k sh ls s.stamps ss x.table x.table w t (grows ss len same) g.0 in
-      goes_on ss len same (at_stage t (after_running ls (ran t) (suc key))) (ap place_of locking)
-      (locks_on k sh ls w ss x.table x.events t hand.ready hand.chosen (suc key) f g.1)
+      let f = faithful_grows k sh ls s.stamps ss x.table x.table (record { up = λ j. omega (arith, same j); still = λ j l f e. refl }) w t g.0 in
+      goes_on ss (length_modify s.stamps key (lock_for w)) same _ (ap place_of locking) (locks_on k sh ls w ss x.table x.events t hand.ready hand.chosen (suc key) f g.1)

@@ -1,10 +1,13 @@
 -- Where shards lie in the table, what making them fresh leaves, and that all that is owed to a split record is what it is split for.
-use Rattle.protocol.proofs.Base.{◌≡◌, refl, sym, ap, ◌∙◌, false, not, ◌&&◌, ◌||◌, List, [], ◌∷◌, ◌⊎◌, inl, inr, ℕ, zero, suc, ◌+◌, ◌≤◌, ◌<◌, arith, eqb, leb, length, drop, none-some, nth_within, All-append, All-take, All-drop, cases_eq, cond_both, eqb-true, tells, Option, Some, None, AllByRecursion, nth}
-use Rattle.protocol.specs.Rules.{Model, Action, Show, Need, Change, Entry, modify, Phase, Split, Merging, SplitItem, Stage, Running, Locking, Checking, Writing, Sharding, Ended, Stamp, first_of, at_entry, takes, not_taken, first_entry, no_record, late, Transaction, Shape, row_at, verb_of, action_ops, ops_of, ops_on, split_in, find_split, is_split, same_verb, strays, strays_from, shard_at, Event, fresh_row, fresh_all, World}
-use Rattle.protocol.proofs.Finding.{not_found}
-use Rattle.protocol.proofs.Invariant.{HandOk, Fits, pending_at, pending, owed, gathered, Inv}
+use Rattle.protocol.proofs.Base.{◌≡◌, refl, sym, ap, ◌∙◌, true, false, not, ◌&&◌, ◌||◌, List, [], ◌∷◌, ◌++◌, ◌⊎◌, inl, inr, ℕ, zero, suc, ◌+◌, ◌≤◌, ◌<◌, arith, eqb, leb, length, drop, none-some, nth_within, All-append, All-take, All-drop, cases_eq, cond_both, eqb-true, tells, Option, Some, None, AllByRecursion, nth, cond, mapped}
+use Rattle.protocol.specs.Rules.{Model, Action, Show, Need, Change, Entry, modify, Phase, Split, Merging, SplitItem, Stage, Running, Locking, Checking, Writing, Sharding, Ended, Stamp, takes, late, Transaction, Shape, row_at, verb_of, action_ops, ops_of, ops_on, split_in, find_split, is_split, same_verb, strays, strays_from, shard_at, Event, fresh_row, fresh_all, World, State, Row, Operation, apply_all}
+use Rattle.protocol.proofs.Finding.{admitted}
+use Rattle.protocol.proofs.Frames.{after, each_row}
+use Rattle.protocol.proofs.Invariant.{HandOk, Fits, pending_at, pending, owed, gathered, Inv, ShardOk, ValuesOk, ideal}
+use Rattle.protocol.proofs.Owing.{gathered_same, owes_then}
+use Rattle.protocol.proofs.Past.{ideal_none}
 use Rattle.protocol.proofs.Places.{nth_modify, nth_modify_other}
-use Rattle.protocol.proofs.Splits.{found_at}
+use Rattle.protocol.proofs.Splits.{found_at, good_found, good_item}
 use Rattle.protocol.specs.State.{ran}
 
 -- ---- making shards fresh
@@ -53,29 +56,24 @@ module _ {M : Type 0} (k : Model M) (keys : ℕ) where
 pub split_item : (p : Phase) (ls : List SplitItem) (i : ℕ) (l : SplitItem) → nth (split_in p ls) i ≡ Some l → (nth ls i ≡ Some l) × ((p ≡ Split) ⊎ (p ≡ Merging))
 split_item p ls i l h = grind arith
 
--- entries that passed the tests are taken
-taken : (o p : Option ℕ) → first_of (at_entry 10 o ∷ at_entry 11 p ∷ []) ≡ None → p ≡ None
-taken o p h = grind arith
-
 module _ {M : Type 0} (k : Model M) (sh : Shape) (ls : List SplitItem) (w key j : ℕ) (l : SplitItem) (found : find_split 0 ls key ≡ Some (j, l)) where
-  pub fits_entry : (e : Entry) → e.key ≡ key → strays ls e ≡ false → not_taken k w e ≡ false → AllByRecursion (Fits k sh l) (ops_of w e)
+  pub fits_entry : (e : Entry) → e.key ≡ key → strays ls e ≡ false → takes k w e e.action ≡ true → AllByRecursion (Fits k sh l) (ops_of w e)
   fits_entry e d s n = go e.action (ap (strays_from e) (sym (ap (find_split 0 ls) d ∙ found)) ∙ s) n
     where
-      go : (a : Action) → not (eqb e.part l.part && same_verb (verb_of a) l.verb) ≡ false → not (takes k w e a) ≡ false → AllByRecursion (Fits k sh l) (action_ops w e.part a)
+      go : (a : Action) → not (eqb e.part l.part && same_verb (verb_of a) l.verb) ≡ false → takes k w e a ≡ true → AllByRecursion (Fits k sh l) (action_ops w e.part a)
       go (Show n) p q = tt
       go (Need n b) p q = tt
       go (Change v n m) p q = (grind (arith, tells), tt)
 
-  fits_entries : (es : List Entry) → AllByRecursion (λ e. strays ls e ≡ false) es → AllByRecursion (λ e. not_taken k w e ≡ false) es → AllByRecursion (Fits k sh l) (ops_on w key es)
+  fits_entries : (es : List Entry) → AllByRecursion (λ e. strays ls e ≡ false) es → AllByRecursion (λ e. (e.key < sh.keys) × (takes k w e e.action ≡ true)) es → AllByRecursion (Fits k sh l) (ops_on w key es)
   fits_entries [] s n = tt
   fits_entries (e ∷ es) s n =
-      All-append _ _ _ (cond_both (eqb e.key key) (ops_of w e) [] (AllByRecursion (Fits k sh l)) (λ d. fits_entry e (eqb-true _ _ d) s.0 n.0) (λ d. tt)) (fits_entries es s.1 n.1)
+      All-append _ _ _ (cond_both (eqb e.key key) (ops_of w e) [] (AllByRecursion (Fits k sh l)) (λ d. fits_entry e (eqb-true _ _ d) s.0 n.0.1) (λ d. tt)) (fits_entries es s.1 n.1)
 
   -- what entries that passed the tests do to a split key, from a number on, is what it is split for
   pub fits_ran : (t : Transaction) (i : ℕ) → late k sh.keys w t.entries ≡ None → AllByRecursion (λ e. strays ls e ≡ false) (ran t) → AllByRecursion (Fits k sh l) (ops_on w key (drop i (ran t)))
   fits_ran t i fine chosen =
-      let n = taken (first_entry (no_record sh.keys) 0 t.entries) (first_entry (not_taken k w) 0 t.entries) fine in
-      fits_entries (drop i (ran t)) (All-drop _ i (ran t) chosen) (All-drop _ i (ran t) (All-take _ t.done t.entries (not_found (not_taken k w) 0 t.entries n)))
+      fits_entries (drop i (ran t)) (All-drop _ i (ran t) chosen) (All-drop _ i (ran t) (All-take _ t.done t.entries (admitted k sh.keys w t.entries fine)))
 
   -- and so is what it still owes
   pub fits_pending : {ss : List Stamp} {table : List M} {events : List Event} (o : Option Transaction)
@@ -87,8 +85,8 @@ module _ {M : Type 0} (k : Model M) (sh : Shape) (ls : List SplitItem) (w key j 
       go Running = tt
       go (Locking c) = tt
       go Checking = tt
-      go (Writing p c) = cond_both (is_split ls key || leb c key) (ops_on w key (ran t)) [] (AllByRecursion (Fits k sh l)) (λ e. fits_ran t 0 (h t refl).ready.fine (h t refl).chosen) (λ e. tt)
-      go (Sharding p i) = cond_both (is_split ls key) (ops_on w key (drop i (ran t))) [] (AllByRecursion (Fits k sh l)) (λ e. fits_ran t i (h t refl).ready.fine (h t refl).chosen) (λ e. tt)
+      go (Writing p c) = cond_both (is_split ls key || leb c key) (ops_on w key (ran t)) [] (AllByRecursion (Fits k sh l)) (λ e. fits_ran t 0 (h t refl).ready.1 (h t refl).chosen) (λ e. tt)
+      go (Sharding p i) = cond_both (is_split ls key) (ops_on w key (drop i (ran t))) [] (AllByRecursion (Fits k sh l)) (λ e. fits_ran t i (h t refl).ready.1 (h t refl).chosen) (λ e. tt)
       go (Ended o) = tt
 
 -- all that is owed to a split record is what it is split for
@@ -101,3 +99,65 @@ module _ {M : Type 0} (k : Model M) (sh : Shape) (start : List M) (x : World M) 
       let item = split_item x.state.phase x.state.split j l at.0 in
       let fit = (inv.kept.values.shards (λ e. grind arith) n j l (omega arith) item.0).fit in
       All-append _ _ _ (All-append _ _ _ (rw (← at.1) fit) (fits_pending k sh _ n key j l found (row_at x.state.rows n).current (inv.kept.rows n).hand)) (fits_owed n (omega arith))
+
+-- ---- one shard changes
+
+-- a turn of worker w that leaves the operations os in its shard of item i, and all other shards and records but the item's alone
+module _ {M : Type 0} (k : Model M) (sh : Shape) (start : List M) (x : World M) (inv : Inv k sh start x) (w : ℕ) (inside : w < sh.workers) (i : ℕ) (l : SplitItem)
+    (there : nth x.state.split i ≡ Some l) (split : is_split (split_in x.state.phase x.state.split) l.key ≡ true) (ss : List Stamp) (r : Row) (table : List M) (os : List Operation) where
+  abbrev s : State
+  s = x.state
+
+  abbrev ls : List SplitItem
+  ls = split_in s.phase s.split
+
+  abbrev ops : ℕ → ℕ → List Operation
+  ops = inv.kept.values.ops
+
+  abbrev now : ℕ → ℕ → List Operation
+  now j key = cond (eqb j w && eqb key l.key) os (ops j key)
+
+  abbrev at : ℕ
+  at = shard_at sh.keys w i
+
+  abbrev x' : World M
+  x' = after k sh start x w s.ticket s.place ss r table []
+
+  -- a shard is the one that changes, or it lies elsewhere
+  this_or_other : (j n : ℕ) (m : SplitItem) → nth s.split n ≡ Some m
+      → ((j ≡ w) × (n ≡ i) × (m ≡ l) × (now j m.key ≡ os)) ⊎ ((now j m.key ≡ ops j m.key) × (j ≡ w → n ≡ i → ⊥) × (shard_at sh.keys j n ≡ at → ⊥))
+  this_or_other j n m h =
+      let a = good_found k sh.keys s.split n m inv.kept.sized.split_good h in
+      let b = good_found k sh.keys s.split i l inv.kept.sized.split_good there in
+      grind (arith, tells, nth_within s.split n m h, nth_within s.split i l there, inv.kept.sized.split_few)
+
+  owes_now : (key j : ℕ) → ((j ≡ w) × (owed k sh x'.state now key j ≡ now w key ++ pending k sh ls w key r.current)) ⊎ ((j ≡ w → ⊥) × (owed k sh s ops key j ≡ owed k sh x'.state now key j))
+  owes_now key = owes_then k sh start x inv w s.ticket s.place ss r [] inside now key (λ j d. grind (arith, tells))
+
+  pub values_at : ((p : ℕ) → (p ≡ at → ⊥) → (p ≡ l.key → ⊥) → nth table p ≡ nth x.table p) → ShardOk k sh table os w i l
+      → (s.phase ≡ Merging → (n : ℕ) → n < r.merged → ((n ≡ i) × (os ≡ [])) ⊎ ((n ≡ i → ⊥) × (n < (row_at s.rows w).merged)))
+      → ((key : ℕ) → (key ≡ l.key → ⊥) → pending k sh ls w key r.current ≡ pending k sh ls w key (row_at s.rows w).current)
+      → ((g : ℕ → List Operation) → g w ≡ os ++ pending k sh ls w l.key r.current → ((j : ℕ) → (j ≡ w → ⊥) → owed k sh s ops l.key j ≡ g j)
+      → mapped (apply_all k (gathered k sh (owed k sh s ops l.key) sh.workers)) (nth x.table l.key) ≡ mapped (apply_all k (gathered k sh g sh.workers)) (nth table l.key))
+      → ValuesOk k sh x'.state table (ideal k sh start (x.events ++ []))
+  values_at elsewhere shard merged owes here = record {
+    ops = now;
+    unsplit = λ j key u free. let o = inv.kept.values.unsplit j key u free in let h = split in grind (arith, tells);
+    shards = λ p j n m u h. elim (this_or_other j n m h) [
+      | inl c ↦ rw (c.3, c.0, c.1, c.2) shard
+      | inr c ↦
+          let old = inv.kept.values.shards p j n m u h in
+          let good = good_item k sh.keys 0 s.split i l inv.kept.sized.split_good there in
+          rw c.0 (record { base = old.base; holds = elsewhere (shard_at sh.keys j n) c.2 (λ e. omega (arith, good.inside)) ∙ old.holds; fit = old.fit })
+    ];
+    merged = λ p j n m u h. each_row k sh start x w s.ticket s.place ss r table [] inv inside (λ j (q : Row). j < sh.workers → n < q.merged → now j m.key ≡ [])
+        (λ v c. let a = this_or_other w n m h in let b = merged p n c in let old = inv.kept.values.merged p w n m v h in grind arith)
+        (λ j d v c. let a = this_or_other j n m h in let old = inv.kept.values.merged p j n m v h c in grind arith) j u;
+    values = λ key u. ap (λ (us : List M). nth us key) (ideal_none k sh start x.events) ∙ inv.kept.values.values key u ∙ elim (cases_eq key l.key) [
+      | inl e ↦ rw e (here (owed k sh x'.state now l.key) (let o = owes_now l.key w in grind (arith, tells)) (λ j d. let o = owes_now l.key j in grind arith))
+      | inr e ↦
+          let g = gathered_same k sh (owed k sh s ops key) (owed k sh x'.state now key) sh.workers (λ j v. let o = owes_now key j in let q = owes key e in grind (arith, tells)) in
+          let o = sym (elsewhere key (λ c. omega arith) e) in
+          (λ n. mapped (apply_all k (g n)) (o n))
+    ];
+  }

@@ -1,5 +1,5 @@
 -- Every turn keeps what holds of the engine between calls: its locks, its counts, and that whoever has acknowledged rests.
-use Rattle.protocol.proofs.Base.{◌≡◌, refl, sym, ap, ◌∙◌, Bool, true, false, List, [], ◌∷◌, map, ◌⊎◌, inl, inr, ℕ, zero, suc, ◌+◌, ◌≤◌, ◌<◌, ◌^◌, arith, length, set, replicate, none-some, length-set, length-map, get_or-replicate, sum_by-cons, tells, Option, Some, None, Ok, Err, nth}
+use Rattle.protocol.proofs.Base.{◌≡◌, refl, sym, ap, ◌∙◌, Bool, true, false, List, [], ◌∷◌, map, ◌⊎◌, inl, inr, ℕ, zero, suc, ◌+◌, ◌≤◌, ◌<◌, ◌^◌, arith, length, set, replicate, get_or_past, none-some, length-set, length-map, get_or-replicate, sum_by-cons, tells, Option, Some, None, Ok, Err, nth}
 use Rattle.protocol.specs.Rules.{Model, Phase, Closing, Merging, SplitItem, Stamp, Transaction, Row, Shape, State, idle, row_at, stamp_at, begin, with_current, split_in, first_of, owned_by, Moved, put_back, move, step_row, Call, Take, Draw, Step, Acknowledge, Merge, Collect, AnnounceSplit, AnnounceMerging, Release, next_phase, all_acknowledged, drawn, acknowledging, merging, revised, revise, opened, tests, makes, turn_by, turn, holds, aims, in_row, in_rows, may_rest, Counted, Sound, StaysSound}
 use Rattle.std.proofs.lemmas.List.{length-replicate}
 use Rattle.protocol.proofs.Allowed.{Allowed, allowed}
@@ -25,21 +25,25 @@ idle_rows zero w = refl
 idle_rows (suc n) zero = refl
 idle_rows (suc n) (suc w) = idle_rows n w
 
-idle_weigh : (f : ℕ → ℕ) (n : ℕ) → in_rows f (replicate n idle) ≡ 0
+pub idle_weigh : (f : ℕ → ℕ) (n : ℕ) → in_rows f (replicate n idle) ≡ 0
 idle_weigh f zero = refl
 idle_weigh f (suc n) = omega (arith, sum_by-cons (in_row f) idle (replicate n idle), idle_weigh f n)
 
--- what a change of every row makes of one
-mapped_row : (g : Row → Row) (P : Row → Row → Type 0) → ((r : Row) → P r (g r)) → P idle idle → (rows : List Row) (w : ℕ) → P (row_at rows w) (row_at (map g rows) w)
-mapped_row g P h i [] w = i
-mapped_row g P h i (r ∷ rows) zero = h r
-mapped_row g P h i (r ∷ rows) (suc w) = mapped_row g P h i rows w
+-- a row of a list where each is changed
+pub row_map : (f : Row → Row) → f idle ≡ idle → (rows : List Row) (w : ℕ) → row_at (map f rows) w ≡ f (row_at rows w)
+row_map f e [] w = sym e
+row_map f e (r ∷ rows) zero = refl
+row_map f e (r ∷ rows) (suc w) = row_map f e rows w
 
--- where all have acknowledged, whoever has not is no worker and holds nothing
-all_acknowledge : (rows : List Row) (w : ℕ) → all_acknowledged rows ≡ true → ((row_at rows w).acknowledged ≡ true) ⊎ ((row_at rows w).current ≡ None)
-all_acknowledge [] w h = inr refl
-all_acknowledge (r ∷ rows) zero h = inl (grind arith)
-all_acknowledge (r ∷ rows) (suc w) h = all_acknowledge rows w (grind arith)
+-- where all have acknowledged, each has
+pub each_done : (rows : List Row) (w : ℕ) → all_acknowledged rows ≡ true → w < length rows → (row_at rows w).acknowledged ≡ true
+each_done [] w h u = absurd (omega arith)
+each_done (r ∷ rows) zero h u = grind arith
+each_done (r ∷ rows) (suc w) h u = each_done rows w (grind arith) (omega arith)
+
+-- and no hand has anything
+pub all_empty : (sh : Shape) (s : State) → Sound sh s → all_acknowledged s.rows ≡ true → (w : ℕ) → (row_at s.rows w).current ≡ None
+all_empty sh s sound done w = grind (arith, each_done s.rows w done, sound.resting w, get_or_past s.rows w idle)
 
 -- who has a transaction in hand has not acknowledged, and a step leaves it so
 stepped_rests : {M : Type 0} (p : Phase) (r : Row) (t : Transaction) (m : Moved M) → r.current ≡ Some t → (r.acknowledged ≡ true → may_rest p r ≡ true)
@@ -132,15 +136,14 @@ module _ (sh : Shape) (s : State) (sound : Sound sh s) where
     made_sound (Collect w ticket buffer) a = hand_sound w s.ticket (with_current (row w) None) a.0 (λ key. grind (arith, a.1)) refl
         (λ h. grind (arith, sound.resting w h, a.1)) sound.low (made_counted (Collect w ticket buffer) a)
     made_sound (AnnounceSplit items) a = phase_sound Closing items (map (merging 0) s.rows) (length-map s.rows (merging 0))
-        (mapped_row (merging 0) (λ r q. q.current ≡ r.current) (λ r. refl) refl s.rows) (inl (sym (ap (λ p. split_in p s.split) a.0)))
-        (λ w h. grind (arith, sound.resting w, a.0, mapped_row (merging 0) (λ r q. q.acknowledged ≡ r.acknowledged) (λ r. refl) refl s.rows w))
+        (λ w. ap (λ (r : Row). r.current) (row_map (merging 0) refl s.rows w)) (inl (sym (ap (λ p. split_in p s.split) a.0)))
+        (λ w h. grind (arith, sound.resting w, a.0, row_map (merging 0) refl s.rows w))
         (made_counted (AnnounceSplit items) a)
     made_sound AnnounceMerging a = phase_sound Merging s.split s.rows refl (λ w. refl) (inl (sym (ap (λ p. split_in p s.split) a)))
         (λ w h. grind (arith, sound.resting w h)) (made_counted AnnounceMerging a)
     made_sound (Release p) a = phase_sound (next_phase p) s.split (map (acknowledging false) s.rows) (length-map s.rows (acknowledging false))
-        (mapped_row (acknowledging false) (λ r q. q.current ≡ r.current) (λ r. refl) refl s.rows)
-        (inr (λ w. grind (arith, sound.resting w, all_acknowledge s.rows w a.2)))
-        (λ w h. grind (arith, mapped_row (acknowledging false) (λ r q. q.acknowledged ≡ false) (λ r. refl) refl s.rows w)) (made_counted (Release p) a)
+        (λ w. ap (λ (r : Row). r.current) (row_map (acknowledging false) refl s.rows w)) (inr (all_empty sh s sound a.2))
+        (λ w h. grind (arith, row_map (acknowledging false) refl s.rows w)) (made_counted (Release p) a)
 
 module _ {M : Type 0} (k : Model M) (sh : Shape) where
   pub opened_sound : sh.first < 2 ^ 64 → Sound sh (opened sh)

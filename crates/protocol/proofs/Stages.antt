@@ -1,7 +1,9 @@
 -- What is pending at the stage that comes next, and what is so there.
-use Rattle.protocol.proofs.Base.{◌≡◌, refl, ◌∙◌, true, cond, ◌||◌, List, [], ℕ, ◌≤◌, ◌<◌, arith, leb, drop, tells, Option, Some, None}
-use Rattle.protocol.specs.Rules.{Model, Entry, SplitItem, Stage, Stamp, Transaction, Shape, stamp_at, place_of, ops_on, is_split, next_target, next_shard, or_stage, after_writing, after_check, writes}
-use Rattle.protocol.proofs.Invariant.{StageOk, pending_at}
+use Rattle.protocol.proofs.Base.{subst, sym, ◌++◌, same_Some, ◌≡◌, refl, ◌∙◌, true, cond, ◌||◌, List, [], ℕ, ◌≤◌, ◌<◌, arith, leb, drop, tells, Option, Some, None}
+use Rattle.protocol.specs.Rules.{Event, at_stage, Model, Entry, SplitItem, Stage, Stamp, Transaction, Shape, stamp_at, place_of, ops_on, is_split, next_target, next_shard, or_stage, after_writing, after_check, writes}
+use Rattle.protocol.proofs.Frames.{ready_longer}
+use Rattle.protocol.proofs.Places.{nth_longer}
+use Rattle.protocol.proofs.Invariant.{HandOk, StageOk, pending_at}
 use Rattle.protocol.proofs.Operations.{no_writes, NextShard, next_ops, next_sharded}
 use Rattle.protocol.proofs.Targets.{Next, next_key}
 use Rattle.protocol.specs.State.{ran}
@@ -43,3 +45,13 @@ module _ {M : Type 0} (k : Model M) (sh : Shape) (ls : List SplitItem) where
     pub check_ok : (from : ℕ) → ((key : ℕ) → key < sh.keys → writes ls (ran t) key ≡ true → from ≤ key → (stamp_at ss key).version < p) → StageOk k sh ls ss table w t (after_check ls (ran t) p from)
     check_ok from low =
         or_both (Next ls (ran t) from) (StageOk k sh ls ss table w t) _ _ (λ c n key l a b. low key l a (omega (arith, n.1))) (λ n. writing_ok 0) (next_target ls from (ran t)) (next_key ls from (ran t))
+
+  -- a transaction that has its place goes on
+  pub placed_on : (ss ss' : List Stamp) (table table' : List M) (es new : List Event) (w : ℕ) (t : Transaction) (p : ℕ) (g : Stage) → HandOk k sh ls ss table es w t → place_of t.stage ≡ Some p → place_of g ≡ Some p
+      → StageOk k sh ls ss' table' w t g → (u : Transaction) → Some (at_stage t g) ≡ Some u → HandOk k sh ls ss' table' (es ++ new) w u
+  placed_on ss ss' table table' es new w t p g hand was is ok u e = subst (HandOk k sh ls ss' table' (es ++ new) w) (same_Some (at_stage t g) u e) (record {
+    ready = ready_longer k sh es new w t hand.ready;
+    chosen = hand.chosen;
+    placed = λ q h. rw (← same_Some p q (sym is ∙ h)) ((hand.placed p was).0, nth_longer es new _ _ (hand.placed p was).1);
+    stage = ok;
+  })

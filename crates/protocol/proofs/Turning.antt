@@ -1,9 +1,10 @@
 -- Every turn of every run keeps the invariant.
-use Rattle.protocol.proofs.Base.{◌≡◌, refl, sym, subst, ◌∙◌, true, List, [], ◌++◌, append-nil, ℕ, zero, suc, ◌<◌, ◌^◌, arith, ℤ, replicate, sum_by-cons, false≢true, Option, Some, None, Result, Ok, Err}
-use Rattle.protocol.specs.Rules.{Model, Laws, ReadAs, Entry, SplitItem, first_of, Transaction, Shape, State, idle, row_at, split_in, Moved, step_row, Taking, Placing, Call, Take, Draw, Step, Acknowledge, Merge, Collect, AnnounceSplit, AnnounceMerging, Release, Event, Made, Refused, Gave, left_in, runs, refuse_open, tests, steps, merges, makes, turn_by, turn, taking_in, placing_in, World, Lawful, Runs, opens, refuses, Unchanged, in_row, in_rows}
+use Rattle.protocol.proofs.Base.{◌≡◌, refl, sym, subst, ◌∙◌, true, List, [], ◌++◌, append-nil, ℕ, ◌<◌, ◌^◌, arith, ℤ, false≢true, Option, Some, None, Result}
+use Rattle.protocol.specs.Rules.{Model, Laws, ReadAs, Entry, SplitItem, first_of, Transaction, Shape, State, row_at, split_in, Moved, step_row, Taking, Placing, Call, Take, Draw, Step, Acknowledge, Merge, Collect, AnnounceSplit, AnnounceMerging, Release, Event, Made, Refused, left_in, runs, refuse_open, tests, merges, makes, turn_by, turn, taking_in, placing_in, World, Lawful, Runs, opens, refuses, Unchanged}
 use Rattle.protocol.proofs.Allowed.{allowed}
 use Rattle.protocol.proofs.Committing.{places_ok}
 use Rattle.protocol.proofs.Doing.{Does, rests, reads, strays_off, clashes, locks, places, writes_on, shards, does}
+use Rattle.protocol.proofs.Frames.{after, Goes}
 use Rattle.protocol.proofs.Hands.{takes_ok, draws_ok, collects_ok, acknowledges_ok}
 use Rattle.protocol.proofs.Invariant.{Weighed, Kept, Inv}
 use Rattle.protocol.proofs.Merging.{merges_ok}
@@ -12,8 +13,7 @@ use Rattle.protocol.proofs.Phases.{opens_ok, splits_ok, merging_ok, releases_ok}
 use Rattle.protocol.proofs.Places.{nth_there}
 use Rattle.protocol.proofs.Running.{rests_ok, reads_ok, strays_ok, clashes_ok, locks_ok}
 use Rattle.protocol.proofs.Sharding.{shards_ok}
-use Rattle.protocol.proofs.Soundness.{opened_sound, weighs, turn_sound}
-use Rattle.protocol.proofs.Stepping.{Goes}
+use Rattle.protocol.proofs.Soundness.{idle_weigh, opened_sound, weighs, turn_sound}
 use Rattle.protocol.proofs.Writing.{writes_ok}
 use Rattle.protocol.specs.Runs.{makes as goes_on}
 use Rattle.protocol.specs.Turns.{placings, takes}
@@ -23,27 +23,11 @@ module _ {M : Type 0} (k : Model M) (sh : Shape) (s : State) (lent : List M) (co
   abbrev Same : Made M → Type 0
   Same m = (m.state ≡ s) × (m.table ≡ lent) × ((buffer : List ℤ) → left_in buffer m.answer ≡ buffer) × (m.events ≡ [])
 
-  gave : (c : List ℕ) (zs : List ℤ) → Gave c zs ≡ Refused code → ⊥
-  gave c zs h = let z : ◌≡◌ {A = ℕ} 0 1 = cc in omega arith
-
-  makes_same : (c : Call) → (makes k sh s lent c).answer ≡ Refused code → Same (makes k sh s lent c)
-  makes_same (Take w text (Err c)) h = (refl, refl, λ _. refl, refl)
-  makes_same (Take w text (Ok es)) h = absurd (gave _ _ h)
-  makes_same (Draw w) h = absurd (gave _ _ h)
-  makes_same (Step w) h = absurd (gave _ _ h)
-  makes_same (Acknowledge w) h = absurd (gave _ _ h)
-  makes_same (Merge w) h = absurd (gave _ _ h)
-  makes_same (Collect w ticket buffer) h = absurd (gave _ _ h)
-  makes_same (AnnounceSplit ls) h = absurd (gave _ _ h)
-  makes_same AnnounceMerging h = absurd (gave _ _ h)
-  makes_same (Release p) h = absurd (gave _ _ h)
-
   pub unchanged : (c : Call) → (turn k sh s lent c).answer ≡ Refused code → Unchanged k sh s lent c
   unchanged c h = let r = go (first_of (tests k sh s lent c)) h in record { state = r.0; table = r.1; buffer = r.2; events = r.3 }
     where
       go : (o : Option (List ℕ)) → (turn_by k sh s lent c o).answer ≡ Refused code → Same (turn_by k sh s lent c o)
-      go (Some d) g = (refl, refl, λ _. refl, refl)
-      go None g = makes_same c g
+      go o g = (grind arith, grind arith, λ buffer. grind arith, grind arith)
 
 module _ {M : Type 0} (k : Model M) (laws : Laws k) (sh : Shape) (start : List M) where
   -- the world after what a turn made
@@ -61,21 +45,17 @@ module _ {M : Type 0} (k : Model M) (laws : Laws k) (sh : Shape) (start : List M
     step_fine : (w : ℕ) → w < sh.workers → (t : Transaction) → (row_at s.rows w).current ≡ Some t → (m : Moved M) (new : List Event)
         → Does k sh.keys (split_in s.phase s.split) w s.stamps s.place x.table t m new → Goes k sh start x w m new
     step_fine w l t h m new rests = rests_ok k sh start x inv w l t h
-    step_fine w l t h m new (reads e a b c d) = reads_ok k sh start x inv w l t h e a b c d
+    step_fine w l t h m new (reads e a b c d) = reads_ok k sh start x inv w l t h e a b c
     step_fine w l t h m new (strays_off a) = strays_ok k sh start x inv w l t h a
     step_fine w l t h m new (clashes key a) = clashes_ok k sh start x inv w l t h key a
-    step_fine w l t h m new (locks key a b) = locks_ok k sh start x inv w l t h key a b
+    step_fine w l t h m new (locks key a b) = locks_ok k sh start x inv w l t h key a
     step_fine w l t h m new (places a b) = places_ok k laws sh start x inv w l t h a b
-    step_fine w l t h m new (writes_on p key a) = writes_ok k sh start x inv w l t h p key a
+    step_fine w l t h m new (writes_on p key a) = writes_ok k laws sh start x inv w l t h p key a
     step_fine w l t h m new (shards p i e a b) = shards_ok k sh start x inv w l t h p i e a b
 
     hand_fine : (w : ℕ) → w < sh.workers → (o : Option Transaction) → (row_at s.rows w).current ≡ o → runs o ≡ true
-        → Fine (record {
-          answer = (steps k sh s x.table w (step_row k sh.keys (split_in s.phase s.split) w (row_at s.rows w) s.stamps s.place x.table o)).answer;
-          state = (steps k sh s x.table w (step_row k sh.keys (split_in s.phase s.split) w (row_at s.rows w) s.stamps s.place x.table o)).state;
-          table = (steps k sh s x.table w (step_row k sh.keys (split_in s.phase s.split) w (row_at s.rows w) s.stamps s.place x.table o)).table;
-          events = placings w s.stamps s.place o;
-        })
+        → let m = step_row k sh.keys (split_in s.phase s.split) w (row_at s.rows w) s.stamps s.place x.table o in
+        Kept k sh start (after k sh start x w s.ticket m.place m.stamps m.row m.table (placings w s.stamps s.place o))
     hand_fine w l None h r = absurd (false≢true r)
     hand_fine w l (Some t) h r = step_fine w l t h _ _ (does k sh.keys (split_in s.phase s.split) w s.stamps s.place x.table t)
 
@@ -119,13 +99,9 @@ module _ {M : Type 0} (k : Model M) (laws : Laws k) (sh : Shape) (start : List M
       kept = turn_fine c r (first_of (tests k sh s x.table c)) refl;
     }
 
-  idle_weighs : (f : ℕ → ℕ) (n : ℕ) → in_rows f (replicate n idle) ≡ 0
-  idle_weighs f zero = refl
-  idle_weighs f (suc n) = omega (arith, sum_by-cons (in_row f) idle (replicate n idle), idle_weighs f n)
-
   -- what holds of every world that a run leads to
   pub run_inv : refuse_open k sh start ≡ None → sh.first < 2 ^ 64 → (x : World M) → Runs k sh start x → Inv k sh start x
-  run_inv fine low x opens = record { sound = opened_sound k sh low; weighed = λ f. omega (arith, idle_weighs f sh.workers); kept = opens_ok k sh start fine }
+  run_inv fine low x opens = record { sound = opened_sound k sh low; weighed = λ f. omega (arith, idle_weigh f sh.workers); kept = opens_ok k sh start fine }
   run_inv fine low x (goes_on {x = y} c r lawful) = turn_inv y (run_inv fine low y r) c lawful
   run_inv fine low x (refuses {x = y} c lent code r lawful h) =
       let u = unchanged k sh y.state lent code c h in
