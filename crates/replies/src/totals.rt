@@ -3,7 +3,7 @@ ghost use Rattle.std.specs.Prelude.{◌≡◌, Some};
 ghost use Rattle.replies.specs.Replies.{told};
 ghost use Rattle.replies.specs.Totals.{nil, counted, totals_text};
 
-use crate::reply::Reply;
+use crate::reply::{Failure, Reply};
 use std::fmt;
 
 // The commands, those that were refused and those that were not understood. Each count stops at its largest value.
@@ -26,14 +26,16 @@ impl Totals {
         }
     }
 
-    // Counts a command by its reply.
-    pub fn count(&mut self, reply: &Reply)
-        ensures { self.new ≡ counted (told reply.now) self.old }
+    // Counts a command by its answer.
+    pub fn count(&mut self, answer: &Result<Reply, Failure>)
+        ensures { self.new ≡ counted (told answer.now) self.old }
     {
         self.commands = self.commands.saturating_add(1);
-        match reply {
-            Reply::Refused(_) => self.refused = self.refused.saturating_add(1),
-            Reply::NotUnderstood => self.misunderstood = self.misunderstood.saturating_add(1),
+        match answer {
+            Err(Failure::Refused(_)) => self.refused = self.refused.saturating_add(1),
+            Err(Failure::NotUnderstood) => self.misunderstood = self
+                .misunderstood
+                .saturating_add(1),
             _ => {}
         }
     }

@@ -1,7 +1,7 @@
--- What `opened` ensures, where the search leaves it.
+-- What `open` ensures, where the search leaves it.
 use Rattle.desk.specs.Engines.{amount_of, quad_of}
 use Rattle.desk.proofs.Starts.{opened_count, opened_four}
-use Rattle.desk.proofs.engine.opened.Goals as goal
+use Rattle.desk.proofs.engine.Engine.open.Goals as goal
 
 pub returns-in_ok-solo-in-Count : goal.returns-in_ok-solo-in-Count
 returns-in_ok-solo-in-Count c =
