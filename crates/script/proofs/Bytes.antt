@@ -1,9 +1,8 @@
 -- What the front of a written text stands for, and what the bytes read so far make of the rest.
 use Rattle.std.proofs.Common.{◌≡◌, ℕ, ◌+◌, ◌-◌, ◌*◌, ◌<◌, ◌≤◌, eqb, List, [], ◌∷◌, ◌++◌, length, get_or, take, drop, Some, None, Option, sym, refl, ap, ◌∙◌, arith}
-use Rattle.std.specs.Option.{option_map}
+use Rattle.std.specs.Option.{option_map, option_and_then}
 use Rattle.std.proofs.lemmas.List.{append-nil, append_assoc, take_rest, length-drop}
 use Rattle.std.proofs.lemmas.Bool.{ne_eqb, cond-false}
-use Rattle.script.specs.Options.{and_then}
 use Rattle.script.specs.Escapes.{hex_digit_of, hex_pair, onto, reading, outside, slashed, unescaped}
 
 -- a text stands for a byte and then for what stands behind its first k bytes
@@ -38,11 +37,11 @@ module _ (text : List ℕ) where
   pub begins_hex : (h l : ℕ) → 4 ≤ length text → get_or text 0 0 ≡ 92 → get_or text 1 0 ≡ 120 → Some h ≡ hex_digit_of (get_or text 2 0) → Some l ≡ hex_digit_of (get_or text 3 0) → Begins text 4 (16 * h + l)
   begins_hex h l four slash x high low =
       begins text 4 (16 * h + l) (omega arith) four
-      (ap unescaped (front_four text 92 120 four slash x) ∙ ap (λ (o : Option ℕ). and_then o (λ b. onto b (unescaped (drop 4 text)))) pair)
+      (ap unescaped (front_four text 92 120 four slash x) ∙ ap (λ (o : Option ℕ). option_and_then (λ b. onto b (unescaped (drop 4 text))) o) pair)
     where
       pair : hex_pair (get_or text 2 0) (get_or text 3 0) ≡ Some (16 * h + l)
       pair =
-          ap (λ (o : Option ℕ). and_then o (λ a. option_map (λ b. 16 * a + b) (hex_digit_of (get_or text 3 0)))) (sym high)
+          ap (λ (o : Option ℕ). option_and_then (λ a. option_map (λ b. 16 * a + b) (hex_digit_of (get_or text 3 0))) o) (sym high)
           ∙ ap (λ (o : Option ℕ). option_map (λ b. 16 * h + b) o) (sym low)
 
 pub begins_itself : (text : List ℕ) → 0 < length text → (get_or text 0 0 ≡ 92 → ⊥) → Begins text 1 (get_or text 0 0)

@@ -1,11 +1,10 @@
 -- Bytes written with escapes are read back.
 use Rattle.std.proofs.Common.{◌≡◌, ℕ, ◌+◌, ◌*◌, ◌/◌, ◌%◌, ◌<◌, Bool, true, false, cond, eqb, List, [], ◌∷◌, ◌++◌, Some, Option, sym, refl, ap, ◌∙◌, arith}
-use Rattle.std.specs.Option.{option_map}
+use Rattle.std.specs.Option.{option_map, option_and_then}
 use Rattle.std.specs.Fmt.{digit_glyph}
 use Rattle.std.specs.List.{AllByRecursion}
 use Rattle.std.proofs.lemmas.Bool.{eqb-true, cond-false}
 use Rattle.std.proofs.lemmas.Bool.Decides.{nat_tests}
-use Rattle.script.specs.Options.{and_then}
 use Rattle.script.specs.Escapes.{hex_digit_of, hex_pair, onto, reading, outside, slashed, unescaped, escape_byte, escape, escape_hex, EscapesReadBack}
 
 escaped_byte : (b : ℕ) (rest : List ℕ) → unescaped (escape_byte b ++ rest) ≡ onto b (unescaped rest)
@@ -32,14 +31,14 @@ hex_pair_digit_glyph upper b small =
     let high = hex_digit_of_digit_glyph upper (b / 16) (omega arith) in
     let low = hex_digit_of_digit_glyph upper (b % 16) (omega arith) in
     let sum : 16 * (b / 16) + b % 16 ≡ b = omega arith in
-    ap (λ (o : Option ℕ). and_then o (λ h. option_map (λ l. 16 * h + l) (hex_digit_of (digit_glyph upper (b % 16))))) high
+    ap (λ (o : Option ℕ). option_and_then (λ h. option_map (λ l. 16 * h + l) (hex_digit_of (digit_glyph upper (b % 16)))) o) high
     ∙ ap (λ (o : Option ℕ). option_map (λ l. 16 * (b / 16) + l) o) low
     ∙ ap Some sum
 
 hexed_back : (upper : Bool) (bytes : List ℕ) → AllByRecursion (λ b. b < 256) bytes → unescaped (escape_hex upper bytes) ≡ Some bytes
 hexed_back upper [] small = refl
 hexed_back upper (b ∷ bs) small =
-    ap (λ (o : Option ℕ). and_then o (λ c. onto c (unescaped (escape_hex upper bs)))) (hex_pair_digit_glyph upper b small.0)
+    ap (λ (o : Option ℕ). option_and_then (λ c. onto c (unescaped (escape_hex upper bs))) o) (hex_pair_digit_glyph upper b small.0)
     ∙ ap (onto b) (hexed_back upper bs small.1)
 
 pub read_back : EscapesReadBack
