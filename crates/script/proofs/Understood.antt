@@ -14,6 +14,7 @@ use Rattle.script.specs.Commands.{opens, runs, shows, kind_text, kind_by_name, l
 use Rattle.script.specs.declared.commands.KindName.{KindName}
 use Rattle.script.specs.declared.commands.KindName.TheVariants.{Count, Four}
 use Rattle.words.proofs.Spelled.{spelt}
+use Rattle.script.proofs.Names.{kind_back}
 
 -- a word without a byte, in front of that byte
 module _ (b : ℕ) where
@@ -52,10 +53,6 @@ module _ (n : ℕ) (small : n < 2 ^ 64) where
 
 led : (n : ℕ) (rest : List ℕ) → n < 2 ^ 64 → leads (decimal n ++ (32 ∷ rest)) ≡ Some (n, rest)
 led n rest small = simp (front_free 32 (decimal n) rest (no_space n small), behind_free 32 (decimal n) rest (no_space n small), spells n small)
-
-kind_back : (k : KindName) → kind_by_name (kind_text k) ≡ Some k
-kind_back Count = refl
-kind_back Four = refl
 
 opened : (w k f : ℕ) (kind : KindName) → w < 2 ^ 64 → k < 2 ^ 64 → f < 2 ^ 64 → opening (decimal w ++ (32 ∷ (decimal k ++ (32 ∷ (decimal f ++ (32 ∷ kind_text kind)))))) ≡ Some (opens w k f kind)
 opened w k f kind sw sk sf =

@@ -74,6 +74,7 @@ pub fn parse(line: &[u8]) -> Option<Command<'_>>
 }
 
 // The opening that the words behind `open` ask for.
+#[tactic(auto, using(crate::proofs::Names::kind_read))]
 fn open(words: &[u8]) -> Option<Command<'_>>
     ensures { option_map meaning result ≡ opening words.now }
 {

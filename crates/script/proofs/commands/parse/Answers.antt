@@ -7,9 +7,4 @@ use Rattle.script.proofs.Understood.{understood}
 use Rattle.script.proofs.commands.parse.Goals as goal
 
 pub returns-in_default-clause-command : goal.returns-in_default-clause-command
-returns-in_default-clause-command c =
-    let w = c.cut.result.0.now in
-    let o : bytes_eq w (codes "open") ≡ false = other w _ (search rules) in
-    let r : bytes_eq w (codes "run") ≡ false = other w _ (search rules) in
-    let t : bytes_eq w (codes "tally") ≡ false = other w _ (search rules) in
-    grind (arith, common_steps)
+returns-in_default-clause-command c = grind (arith, common_steps, other)
