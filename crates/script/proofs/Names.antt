@@ -11,10 +11,7 @@ use Rattle.script.specs.declared.commands.KindName.TheVariants.{Count, Four}
 use Rattle.script.specs.declared.commands.UnknownKind.{UnknownKind}
 
 pub other : (w t : List ℕ) → (w ≡ t → ⊥) → bytes_eq w t ≡ false
-other w t ne = ⊎_elim (λ e. absurd (ne ((bytes_eq-Decides w t).0 e))) (λ e. e) (cases_Bool (bytes_eq w t))
-
-pub other2 : (w t : List ℕ) → (w ≡ t → ⊥) → bytes_eq w t ≡ false
-other2 w t ne = grind (arith, common_steps, bytes_eq-Decides w t)
+other w t ne = grind (arith, common_steps, bytes_eq-Decides w t)
 
 pub kind_back : (k : KindName) → kind_by_name (kind_text k) ≡ Some k
 kind_back Count = refl

@@ -5,6 +5,7 @@ use Rattle.std.specs.Str.Parse.{AllDigits}
 use Rattle.std.specs.Int.{IsInRange}
 use Rattle.std.specs.List.{AllByRecursion}
 use Rattle.std.proofs.lemmas.Fmt.{decimal_is_IsNumeral}
+use Rattle.std.proofs.lemmas.Grind.{common_steps}
 use Rattle.std.proofs.lemmas.List.{append_assoc}
 use Rattle.std.proofs.lemmas.Str.Parse.{digit_from_value}
 use Rattle.std.proofs.lemmas.Bool.{ne_eqb, cond-true, cond-false, eq-eqb}
@@ -23,19 +24,19 @@ module _ (b : ℕ) where
 
   digits_free : (IsInRange 48 57 b → ⊥) → (ds : List ℕ) → AllDigits 10 ds → Free ds
   digits_free none [] d = tt
-  digits_free none (c ∷ cs) d = ((λ e. none (subst (IsInRange 48 57) e (digit_from_value c d.0))), digits_free none cs d.1)
+  digits_free none (c ∷ cs) d = grind (arith, common_steps, digit_from_value c d.0, digits_free none cs d.1)
 
   free_append : (v w : List ℕ) → Free v → Free w → Free (v ++ w)
   free_append [] w f g = g
   free_append (c ∷ cs) w f g = (f.0, free_append cs w f.1 g)
 
   front_free : (w rest : List ℕ) → Free w → front b (w ++ (b ∷ rest)) ≡ w
-  front_free [] rest f = cond-true (eqb b b) _ _ (eq-eqb b b refl)
-  front_free (c ∷ cs) rest f = cond-false (eqb c b) _ _ (ne_eqb c b f.0) ∙ ap (λ (l : List ℕ). c ∷ l) (front_free cs rest f.1)
+  front_free [] rest f = grind (arith, common_steps)
+  front_free (c ∷ cs) rest f = grind (arith, common_steps, front_free cs rest f.1)
 
   behind_free : (w rest : List ℕ) → Free w → behind b (w ++ (b ∷ rest)) ≡ Some rest
-  behind_free [] rest f = cond-true (eqb b b) _ _ (eq-eqb b b refl)
-  behind_free (c ∷ cs) rest f = cond-false (eqb c b) _ _ (ne_eqb c b f.0) ∙ behind_free cs rest f.1
+  behind_free [] rest f = grind (arith, common_steps)
+  behind_free (c ∷ cs) rest f = grind (arith, common_steps, behind_free cs rest f.1)
 
 -- a number in the plain way, which neither a space nor a point is among
 module _ (n : ℕ) (small : n < 2 ^ 64) where

@@ -46,19 +46,12 @@ pub struct Opening {
 #[derive(Clone, Copy)]
 pub enum Command<'a> {
     Open(Opening),
-    Run {
-        worker: u64,
-        text: &'a [u8],
-    },
-    Tally {
-        key: u64,
-        part: u64,
-        number: u64,
-    },
+    Run { worker: u64, text: &'a [u8] },
+    Tally { key: u64, part: u64, number: u64 },
 }
 
 // The command that a line spells, none where it is not understood.
-#[tactic(auto, using(crate::proofs::Understood::understood))]
+#[tactic(auto, using(std::proofs::lemmas::Grind::common_steps, crate::proofs::Understood::understood, crate::proofs::Names::other))]
 pub fn parse(line: &[u8]) -> Option<Command<'_>>
     ensures command { option_map meaning result ≡ command line.now }
     ensures plainly { PlainlyUnderstood }

@@ -21,7 +21,7 @@ impl From<AllocFailed<u8>> for UnescapeError {
 }
 
 // The bytes that a written text stands for.
-#[tactic(auto, using(crate::proofs::ReadBack::read_back, crate::proofs::Bytes::after_none, crate::proofs::Bytes::after_more, crate::proofs::Bytes::after_all))]
+#[tactic(auto, using(crate::proofs::ReadBack::read_back, crate::proofs::Bytes::after_more))]
 pub fn unescape(heap: Global, text: &[u8]) -> Result<Vec<u8>, UnescapeError>
     ensures bytes { Unescapes text.now result }
     ensures reads_back { EscapesReadBack }
@@ -37,6 +37,7 @@ pub fn unescape(heap: Global, text: &[u8]) -> Result<Vec<u8>, UnescapeError>
 }
 
 // The byte that the front of a text stands for, with what is written behind it, none where a bad escape begins the text.
+#[tactic(auto, using(std::proofs::lemmas::Grind::common_steps, crate::proofs::Bytes::reads_line, crate::proofs::Bytes::reads_slash, crate::proofs::Bytes::reads_hex, crate::proofs::Bytes::reads_itself))]
 fn first_byte(text: &[u8]) -> Option<(u8, &[u8])>
     requires { 0 < length text.now }
     ensures { MatchOption result (unescaped text.now ≡ None) (λ p. (unescaped text.now ≡ onto p.0 (unescaped p.1.now)) × (length p.1.now < length text.now)) }
