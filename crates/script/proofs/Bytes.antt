@@ -26,6 +26,8 @@ pub reads_itself : (text : List ℕ) → 0 < length text → (get_or text 0 0 �
 reads_itself [] some other = absurd (omega arith)
 reads_itself (c ∷ cs) some other = grind (arith, common_steps)
 
+pub ruleset fronts = (common_steps, reads_line, reads_slash, reads_hex, reads_itself)
+
 -- bytes that were read, in front of what the rest stands for
 abbrev pub after : List ℕ → Option (List ℕ) → Option (List ℕ)
 after bytes o = option_map (λ rest. bytes ++ rest) o

@@ -1,10 +1,9 @@
--- A word is read as the kind that it names.
-use Rattle.std.proofs.Common.{◌≡◌, ℕ, false, List, Some, None, codes, ap, refl, ◌∙◌, ⊎_elim, Result, Ok, Err, arith}
+-- A word that is no name is told from each, and a word is read as the kind that it names.
+use Rattle.std.proofs.Common.{◌≡◌, ℕ, false, List, Some, codes, ap, refl, ◌∙◌, Result, Ok, Err, arith}
 use Rattle.std.specs.Str.{bytes_eq}
 use Rattle.std.specs.Result.{result_ok}
 use Rattle.std.proofs.lemmas.Slice.Eq.{bytes_eq-Decides}
 use Rattle.std.proofs.lemmas.Grind.{common_steps}
-use Rattle.std.proofs.lemmas.Bool.{cases_Bool, cond-false}
 use Rattle.script.specs.Commands.{KindNamed, kind_text, kind_by_name}
 use Rattle.script.specs.declared.commands.KindName.{KindName}
 use Rattle.script.specs.declared.commands.KindName.TheVariants.{Count, Four}
@@ -12,6 +11,8 @@ use Rattle.script.specs.declared.commands.UnknownKind.{UnknownKind}
 
 pub other : (w t : List ℕ) → (w ≡ t → ⊥) → bytes_eq w t ≡ false
 other w t ne = grind (arith, common_steps, bytes_eq-Decides w t)
+
+pub ruleset unnamed = (common_steps, other)
 
 pub kind_back : (k : KindName) → kind_by_name (kind_text k) ≡ Some k
 kind_back Count = refl

@@ -1,7 +1,6 @@
 -- A text cut at the place where a byte first stands.
-use Rattle.std.proofs.Common.{◌≡◌, ℕ, ◌+◌, ◌<◌, ◌≤◌, ◌==◌, not, List, [], ◌∷◌, length, take, drop, Some, None, ap, arith}
+use Rattle.std.proofs.Common.{◌≡◌, ℕ, ◌+◌, ◌<◌, ◌≤◌, ◌==◌, not, List, [], ◌∷◌, length, take, drop, Some, None, arith}
 use Rattle.std.specs.List.{position_or_len}
-use Rattle.std.specs.Option.{option_map}
 use Rattle.std.proofs.lemmas.Grind.{common_steps}
 use Rattle.std.proofs.lemmas.List.Sums.{take_while-cons}
 use Rattle.script.specs.Cuts.{front, behind}
@@ -17,3 +16,5 @@ behind_some b (c ∷ cs) h = grind (arith, common_steps, behind_some b cs)
 pub behind_none : (b : ℕ) (text : List ℕ) → length text ≤ position_or_len (λ c. c == b) text → behind b text ≡ None
 behind_none b [] h = grind (arith, common_steps)
 behind_none b (c ∷ cs) h = grind (arith, common_steps, behind_none b cs)
+
+pub ruleset cuts = (common_steps, front_is, behind_some, behind_none)

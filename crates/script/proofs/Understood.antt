@@ -1,6 +1,5 @@
 -- Every request that is written in the plain way is understood as itself.
-use Rattle.std.proofs.Common.{◌≡◌, ℕ, ◌^◌, ◌<◌, eqb, List, [], ◌∷◌, ◌++◌, Some, decimal, Option, unwrap_or, sym, refl, ap, ◌∙◌, subst, arith}
-use Rattle.std.specs.Option.{option_map}
+use Rattle.std.proofs.Common.{◌≡◌, ℕ, ◌^◌, ◌<◌, List, [], ◌∷◌, ◌++◌, Some, decimal, sym, ap, ◌∙◌, arith}
 use Rattle.std.specs.Str.Parse.{AllDigits}
 use Rattle.std.specs.Int.{IsInRange}
 use Rattle.std.specs.List.{AllByRecursion}
@@ -8,12 +7,10 @@ use Rattle.std.proofs.lemmas.Fmt.{decimal_is_IsNumeral}
 use Rattle.std.proofs.lemmas.Grind.{common_steps}
 use Rattle.std.proofs.lemmas.List.{append_assoc}
 use Rattle.std.proofs.lemmas.Str.Parse.{digit_from_value}
-use Rattle.std.proofs.lemmas.Bool.{ne_eqb, cond-true, cond-false, eq-eqb}
 use Rattle.words.specs.Numbers.{numeral}
 use Rattle.script.specs.Cuts.{front, behind}
-use Rattle.script.specs.Commands.{opens, runs, shows, kind_text, kind_by_name, leads, keyed, opening, running, showing, PlainlyUnderstood}
+use Rattle.script.specs.Commands.{opens, runs, shows, kind_text, leads, keyed, opening, running, showing, PlainlyUnderstood}
 use Rattle.script.specs.declared.commands.KindName.{KindName}
-use Rattle.script.specs.declared.commands.KindName.TheVariants.{Count, Four}
 use Rattle.words.proofs.Spelled.{spelt}
 use Rattle.script.proofs.Names.{kind_back}
 

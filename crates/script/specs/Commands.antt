@@ -7,7 +7,6 @@ use Rattle.script.specs.Cuts.{front, behind}
 use Rattle.script.specs.declared.commands.KindName.{KindName}
 use Rattle.script.specs.declared.commands.KindName.TheVariants.{Count, Four}
 use Rattle.script.specs.declared.commands.UnknownKind.{UnknownKind}
-use Rattle.script.specs.declared.commands.Opening.{Opening}
 use Rattle.script.specs.declared.commands.Command.{Command}
 use Rattle.script.specs.declared.commands.Command.TheVariants.{Open, Run, Tally}
 

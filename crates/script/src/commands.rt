@@ -15,7 +15,7 @@ pub enum KindName {
 }
 
 // A word that names no kind.
-#[derive(Clone, Copy)]
+#[derive(Clone, Copy, Debug, PartialEq, Eq)]
 pub struct UnknownKind;
 
 // The kind that a word names, if it names one.
@@ -51,7 +51,7 @@ pub enum Command<'a> {
 }
 
 // The command that a line spells, none where it is not understood.
-#[tactic(auto, using(std::proofs::lemmas::Grind::common_steps, crate::proofs::Understood::understood, crate::proofs::Names::other))]
+#[tactic(auto, using(crate::proofs::Understood::understood, crate::proofs::Names::unnamed))]
 pub fn parse(line: &[u8]) -> Option<Command<'_>>
     ensures command { option_map meaning result ≡ command line.now }
     ensures plainly { PlainlyUnderstood }

@@ -5,7 +5,7 @@ ghost use Rattle.std.specs.Option.{option_map};
 ghost use Rattle.script.specs.Cuts.{front, behind};
 
 // What stands before the first such byte, all where there is none, and what stands behind it.
-#[tactic(auto, using(std::proofs::lemmas::Grind::common_steps, crate::proofs::Places::front_is, crate::proofs::Places::behind_some, crate::proofs::Places::behind_none))]
+#[tactic(auto, using(crate::proofs::Places::cuts))]
 pub fn cut(text: &[u8], byte: u8) -> (&[u8], Option<&[u8]>)
     ensures front { result.0.now ≡ front byte text.now }
     ensures behind { option_map (λ x. x.now) result.1 ≡ behind byte text.now }

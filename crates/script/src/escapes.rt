@@ -6,12 +6,13 @@ ghost use Rattle.script.specs.declared.escapes.UnescapeError.TheVariants.{Memory
 use std::alloc::{AllocFailed, Global};
 
 // Why a written text is not read.
-#[derive(Clone, Copy, PartialEq, Eq, Debug)]
+#[derive(Clone, Copy, Debug, PartialEq, Eq)]
 pub enum UnescapeError {
     BadEscape,
     Memory,
 }
 
+// A byte that found no memory.
 impl From<AllocFailed<u8>> for UnescapeError {
     ghost from_gives = { λ _ e. e ≡ Memory };
 
@@ -37,7 +38,7 @@ pub fn unescape(heap: Global, text: &[u8]) -> Result<Vec<u8>, UnescapeError>
 }
 
 // The byte that the front of a text stands for, with what is written behind it, none where a bad escape begins the text.
-#[tactic(auto, using(std::proofs::lemmas::Grind::common_steps, crate::proofs::Bytes::reads_line, crate::proofs::Bytes::reads_slash, crate::proofs::Bytes::reads_hex, crate::proofs::Bytes::reads_itself))]
+#[tactic(auto, using(crate::proofs::Bytes::fronts))]
 fn first_byte(text: &[u8]) -> Option<(u8, &[u8])>
     requires { 0 < length text.now }
     ensures { MatchOption result (unescaped text.now ≡ None) (λ p. (unescaped text.now ≡ onto p.0 (unescaped p.1.now)) × (length p.1.now < length text.now)) }
