@@ -16,7 +16,7 @@ pub fn cut(text: &[u8], byte: u8) -> (&[u8], Option<&[u8]>)
     }
 }
 
-// The first place of a byte in a text.
+// The first place of a byte in a text, in a function of its own so that `position` is stated as an equation.
 fn place(text: &[u8], byte: u8) -> Option<usize>
     ensures { result ≡ position (λ c. c == byte) text.now }
 {
