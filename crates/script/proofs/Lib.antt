@@ -1,6 +1,4 @@
-pub mod Cuts
-pub mod Spelled
-pub mod Blanks
+pub mod Places
 pub mod Bytes
 pub mod ReadBack
 pub mod Names

@@ -1,19 +1,18 @@
 -- Every request that is written in the plain way is understood as itself.
-use Rattle.std.proofs.Common.{◌≡◌, ℕ, ◌^◌, ◌<◌, eqb, List, [], ◌∷◌, ◌++◌, Some, decimal, Option, unwrap_or, sym, refl, ap, ◌∙◌, subst, arith}
-use Rattle.std.specs.Option.{option_map}
+use Rattle.std.proofs.Common.{◌≡◌, ℕ, ◌^◌, ◌<◌, List, [], ◌∷◌, ◌++◌, Some, decimal, sym, ap, ◌∙◌, arith}
 use Rattle.std.specs.Str.Parse.{AllDigits}
 use Rattle.std.specs.Int.{IsInRange}
 use Rattle.std.specs.List.{AllByRecursion}
 use Rattle.std.proofs.lemmas.Fmt.{decimal_is_IsNumeral}
+use Rattle.std.proofs.lemmas.Grind.{common_steps}
 use Rattle.std.proofs.lemmas.List.{append_assoc}
 use Rattle.std.proofs.lemmas.Str.Parse.{digit_from_value}
-use Rattle.std.proofs.lemmas.Bool.{ne_eqb, cond-true, cond-false, eq-eqb}
-use Rattle.script.specs.Options.{and_then}
-use Rattle.script.specs.Words.{front, behind, numeral}
-use Rattle.script.specs.Commands.{opens, runs, shows, kind_text, kind_by_name, leads, keyed, opening, running, showing, PlainlyUnderstood}
+use Rattle.words.specs.Numbers.{numeral}
+use Rattle.script.specs.Cuts.{front, behind}
+use Rattle.script.specs.Commands.{opens, runs, shows, kind_text, leads, keyed, opening, running, showing, PlainlyUnderstood}
 use Rattle.script.specs.declared.commands.KindName.{KindName}
-use Rattle.script.specs.declared.commands.KindName.TheVariants.{Count, Four}
-use Rattle.script.proofs.Spelled.{spelt}
+use Rattle.words.proofs.Spelled.{spelt}
+use Rattle.script.proofs.Names.{kind_back}
 
 -- a word without a byte, in front of that byte
 module _ (b : ℕ) where
@@ -22,19 +21,19 @@ module _ (b : ℕ) where
 
   digits_free : (IsInRange 48 57 b → ⊥) → (ds : List ℕ) → AllDigits 10 ds → Free ds
   digits_free none [] d = tt
-  digits_free none (c ∷ cs) d = ((λ e. none (subst (IsInRange 48 57) e (digit_from_value c d.0))), digits_free none cs d.1)
+  digits_free none (c ∷ cs) d = grind (arith, common_steps, digit_from_value c d.0, digits_free none cs d.1)
 
   free_append : (v w : List ℕ) → Free v → Free w → Free (v ++ w)
   free_append [] w f g = g
   free_append (c ∷ cs) w f g = (f.0, free_append cs w f.1 g)
 
   front_free : (w rest : List ℕ) → Free w → front b (w ++ (b ∷ rest)) ≡ w
-  front_free [] rest f = cond-true (eqb b b) _ _ (eq-eqb b b refl)
-  front_free (c ∷ cs) rest f = cond-false (eqb c b) _ _ (ne_eqb c b f.0) ∙ ap (λ (l : List ℕ). c ∷ l) (front_free cs rest f.1)
+  front_free [] rest f = grind (arith, common_steps)
+  front_free (c ∷ cs) rest f = grind (arith, common_steps, front_free cs rest f.1)
 
   behind_free : (w rest : List ℕ) → Free w → behind b (w ++ (b ∷ rest)) ≡ Some rest
-  behind_free [] rest f = cond-true (eqb b b) _ _ (eq-eqb b b refl)
-  behind_free (c ∷ cs) rest f = cond-false (eqb c b) _ _ (ne_eqb c b f.0) ∙ behind_free cs rest f.1
+  behind_free [] rest f = grind (arith, common_steps)
+  behind_free (c ∷ cs) rest f = grind (arith, common_steps, behind_free cs rest f.1)
 
 -- a number in the plain way, which neither a space nor a point is among
 module _ (n : ℕ) (small : n < 2 ^ 64) where
@@ -51,27 +50,14 @@ module _ (n : ℕ) (small : n < 2 ^ 64) where
   no_point = digits_free 46 (λ h. omega (arith, h)) (decimal n) (decimal_is_IsNumeral n small).0.1
 
 led : (n : ℕ) (rest : List ℕ) → n < 2 ^ 64 → leads (decimal n ++ (32 ∷ rest)) ≡ Some (n, rest)
-led n rest small =
-    ap (λ (w : List ℕ). and_then (numeral w) (λ m. option_map (λ r. (m, r)) (behind 32 (decimal n ++ (32 ∷ rest))))) (front_free 32 (decimal n) rest (no_space n small))
-    ∙ ap (λ (o : Option ℕ). and_then o (λ m. option_map (λ r. (m, r)) (behind 32 (decimal n ++ (32 ∷ rest))))) (spells n small)
-    ∙ ap (λ (o : Option (List ℕ)). option_map (λ r. (n, r)) o) (behind_free 32 (decimal n) rest (no_space n small))
-
-kind_back : (k : KindName) → kind_by_name (kind_text k) ≡ Some k
-kind_back Count = refl
-kind_back Four = refl
+led n rest small = simp (front_free 32 (decimal n) rest (no_space n small), behind_free 32 (decimal n) rest (no_space n small), spells n small)
 
 opened : (w k f : ℕ) (kind : KindName) → w < 2 ^ 64 → k < 2 ^ 64 → f < 2 ^ 64 → opening (decimal w ++ (32 ∷ (decimal k ++ (32 ∷ (decimal f ++ (32 ∷ kind_text kind)))))) ≡ Some (opens w k f kind)
 opened w k f kind sw sk sf =
-    ap (λ (o : Option (ℕ × List ℕ)). and_then o (λ a. and_then (leads a.1) (λ b. and_then (leads b.1) (λ c. option_map (λ n. opens a.0 b.0 c.0 n) (kind_by_name c.1))))) (led w (decimal k ++ (32 ∷ (decimal f ++ (32 ∷ kind_text kind)))) sw)
-    ∙ ap (λ (o : Option (ℕ × List ℕ)). and_then o (λ b. and_then (leads b.1) (λ c. option_map (λ n. opens w b.0 c.0 n) (kind_by_name c.1)))) (led k (decimal f ++ (32 ∷ kind_text kind)) sk)
-    ∙ ap (λ (o : Option (ℕ × List ℕ)). and_then o (λ c. option_map (λ n. opens w k c.0 n) (kind_by_name c.1))) (led f (kind_text kind) sf)
-    ∙ ap (λ (o : Option KindName). option_map (λ n. opens w k f n) o) (kind_back kind)
+    simp (led w (decimal k ++ (32 ∷ (decimal f ++ (32 ∷ kind_text kind)))) sw, led k (decimal f ++ (32 ∷ kind_text kind)) sk, led f (kind_text kind) sf, kind_back kind)
 
 ran : (w : ℕ) (text : List ℕ) → w < 2 ^ 64 → running (decimal w ++ (32 ∷ text)) ≡ Some (runs w text)
-ran w text small =
-    ap (λ (o : Option (List ℕ)). option_map (λ n. runs n (unwrap_or o [])) (numeral (front 32 (decimal w ++ (32 ∷ text))))) (behind_free 32 (decimal w) text (no_space w small))
-    ∙ ap (λ (l : List ℕ). option_map (λ n. runs n text) (numeral l)) (front_free 32 (decimal w) text (no_space w small))
-    ∙ ap (λ (o : Option ℕ). option_map (λ n. runs n text) o) (spells w small)
+ran w text small = simp (front_free 32 (decimal w) text (no_space w small), behind_free 32 (decimal w) text (no_space w small), spells w small)
 
 -- a key and a part, as one word
 module _ (k p : ℕ) (sk : k < 2 ^ 64) (sp : p < 2 ^ 64) where
@@ -79,11 +65,7 @@ module _ (k p : ℕ) (sk : k < 2 ^ 64) (sp : p < 2 ^ 64) where
   place = decimal k ++ (46 ∷ decimal p)
 
   keyed_back : keyed place ≡ Some (k, p)
-  keyed_back =
-      ap (λ (l : List ℕ). and_then (numeral l) (λ a. and_then (behind 46 place) (λ r. option_map (λ b. (a, b)) (numeral r)))) (front_free 46 (decimal k) (decimal p) (no_point k sk))
-      ∙ ap (λ (o : Option ℕ). and_then o (λ a. and_then (behind 46 place) (λ r. option_map (λ b. (a, b)) (numeral r)))) (spells k sk)
-      ∙ ap (λ (o : Option (List ℕ)). and_then o (λ r. option_map (λ b. (k, b)) (numeral r))) (behind_free 46 (decimal k) (decimal p) (no_point k sk))
-      ∙ ap (λ (o : Option ℕ). option_map (λ b. (k, b)) o) (spells p sp)
+  keyed_back = simp (front_free 46 (decimal k) (decimal p) (no_point k sk), behind_free 46 (decimal k) (decimal p) (no_point k sk), spells k sk, spells p sp)
 
   place_free : Free 32 place
   place_free = free_append 32 (decimal k) (46 ∷ decimal p) (no_space k sk) ((λ e. omega (arith, e)), no_space p sp)
@@ -91,10 +73,7 @@ module _ (k p : ℕ) (sk : k < 2 ^ 64) (sp : p < 2 ^ 64) where
   shown : (n : ℕ) → n < 2 ^ 64 → showing (decimal k ++ (46 ∷ (decimal p ++ (32 ∷ decimal n)))) ≡ Some (shows k p n)
   shown n sn =
       ap showing (sym (append_assoc (decimal k) (46 ∷ decimal p) (32 ∷ decimal n)))
-      ∙ ap (λ (o : Option (List ℕ)). and_then o (λ r. and_then (keyed (front 32 (place ++ (32 ∷ decimal n)))) (λ q. option_map (λ m. shows q.0 q.1 m) (numeral r)))) (behind_free 32 place (decimal n) place_free)
-      ∙ ap (λ (l : List ℕ). and_then (keyed l) (λ q. option_map (λ m. shows q.0 q.1 m) (numeral (decimal n)))) (front_free 32 place (decimal n) place_free)
-      ∙ ap (λ (o : Option (ℕ × ℕ)). and_then o (λ q. option_map (λ m. shows q.0 q.1 m) (numeral (decimal n)))) keyed_back
-      ∙ ap (λ (o : Option ℕ). option_map (λ m. shows k p m) o) (spells n sn)
+      ∙ simp (front_free 32 place (decimal n) place_free, behind_free 32 place (decimal n) place_free, keyed_back, spells n sn)
 
 pub understood : PlainlyUnderstood
 understood (opens w k f kind) fit = opened w k f kind fit.0 fit.1 fit.2

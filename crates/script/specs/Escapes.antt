@@ -1,10 +1,12 @@
 -- What a text with escapes stands for, two ways to write any bytes, and that both are read back.
-use Rattle.std.specs.Prelude.{◌≡◌, ℕ, ◌+◌, ◌-◌, ◌*◌, ◌/◌, ◌%◌, ◌<◌, Bool, cond, List, [], ◌∷◌, Some, None, Option, ◌==◌}
+use Rattle.std.specs.Prelude.{◌≡◌, ℕ, ◌+◌, ◌-◌, ◌*◌, ◌/◌, ◌%◌, ◌<◌, Bool, cond, List, [], ◌∷◌, Some, None, Option, ◌==◌, Result, Ok, Err, Vec, vec_items, ⊤}
 use Rattle.std.specs.List.{flat_map, AllByRecursion}
-use Rattle.std.specs.Option.{option_map}
+use Rattle.std.specs.Option.{option_map, option_and_then}
 use Rattle.std.specs.Int.{is_in_range}
 use Rattle.std.specs.Fmt.{digit_glyph}
-use Rattle.script.specs.Options.{and_then}
+use Rattle.std.specs.declared.alloc.Global.{Global}
+use Rattle.script.specs.declared.escapes.UnescapeError.{UnescapeError}
+use Rattle.script.specs.declared.escapes.UnescapeError.TheVariants.{BadEscape, Memory}
 
 -- what a hexadecimal digit of either case is worth
 abbrev pub hex_digit_of : ℕ → Option ℕ
@@ -12,7 +14,7 @@ hex_digit_of c = cond (is_in_range 48 57 c) (Some (c - 48)) (cond (is_in_range 6
 
 -- the byte of two such digits
 abbrev pub hex_pair : ℕ → ℕ → Option ℕ
-hex_pair high low = and_then (hex_digit_of high) (λ h. option_map (λ l. 16 * h + l) (hex_digit_of low))
+hex_pair high low = option_and_then (λ h. option_map (λ l. 16 * h + l) (hex_digit_of low)) (hex_digit_of high)
 
 -- one byte more in front
 abbrev pub onto : ℕ → Option (List ℕ) → Option (List ℕ)
@@ -32,11 +34,17 @@ reading slashed (c ∷ cs) =
     cond (c == 110) (onto 10 (reading outside cs)) (cond (c == 92) (onto 92 (reading outside cs)) (cond (c == 120) (reading hexed cs) None))
 reading hexed [] = None
 reading hexed (h ∷ []) = None
-reading hexed (h ∷ l ∷ cs) = and_then (hex_pair h l) (λ b. onto b (reading outside cs))
+reading hexed (h ∷ l ∷ cs) = option_and_then (λ b. onto b (reading outside cs)) (hex_pair h l)
 
 -- the bytes that a text stands for, none where it has a bad escape
 abbrev pub unescaped : List ℕ → Option (List ℕ)
 unescaped text = reading outside text
+
+-- how a written text is read: as its bytes, or not where it has a bad escape; a want of memory says nothing of the text
+abbrev pub Unescapes : List ℕ → Result (Vec ℕ Global) UnescapeError → Type 0
+Unescapes text (Ok bytes) = unescaped text ≡ Some (vec_items bytes)
+Unescapes text (Err BadEscape) = unescaped text ≡ None
+Unescapes text (Err Memory) = ⊤
 
 -- any bytes with `\n` for byte 10 and a doubled backslash
 abbrev pub escape_byte : ℕ → List ℕ

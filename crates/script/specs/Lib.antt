@@ -1,5 +1,4 @@
-pub mod Options
-pub mod Words
+pub mod Cuts
 pub mod Lines
 pub mod Escapes
 pub mod Commands

@@ -1,10 +1,11 @@
 // What a command line asks for.
-ghost use Rattle.std.specs.Prelude.{◌≡◌, MatchOption, ◌≢◌};
+ghost use Rattle.std.specs.Prelude.{◌≡◌};
 ghost use Rattle.std.specs.Option.{option_map};
-ghost use Rattle.script.specs.Commands.{name_text, kind_text, meaning, leads, keyed, opening, running, showing, command, PlainlyUnderstood};
+ghost use Rattle.script.specs.Commands.{KindNamed, meaning, leads, keyed, opening, running, showing, command, PlainlyUnderstood};
 ghost use Rattle.script.specs.Led.{led};
 
-use crate::words::{cut, number};
+use crate::cuts::cut;
+use words::numbers::digits;
 
 // The kinds of record that an engine can be opened with.
 #[derive(Clone, Copy)]
@@ -13,62 +14,73 @@ pub enum KindName {
     Four,
 }
 
+// A word that names no kind.
+#[derive(Clone, Copy, Debug, PartialEq, Eq)]
+pub struct UnknownKind;
+
+// The kind that a word names, if it names one.
+impl TryFrom<&[u8]> for KindName {
+    type Error = UnknownKind;
+
+    ghost try_from_gives = { λ word r. KindNamed word.now r };
+
+    fn try_from(word: &[u8]) -> Result<KindName, UnknownKind> {
+        match word {
+            b"count" => Ok(KindName::Count),
+            b"four" => Ok(KindName::Four),
+            _ => Err(UnknownKind),
+        }
+    }
+}
+
+// What an engine is opened with: the number of its workers and of its keys, the place of the first, and its kind.
+#[derive(Clone, Copy)]
+pub struct Opening {
+    pub workers: u64,
+    pub keys: u64,
+    pub first: u64,
+    pub kind: KindName,
+}
+
 // A command of a script. The text of a transaction stands as it is written, with its escapes.
 #[derive(Clone, Copy)]
 pub enum Command<'a> {
-    Open {
-        workers: u64,
-        keys: u64,
-        first: u64,
-        kind: KindName,
-    },
-    Run {
-        worker: u64,
-        text: &'a [u8],
-    },
-    Tally {
-        key: u64,
-        part: u64,
-        number: u64,
-    },
-}
-
-// The words that a command begins with.
-#[derive(Clone, Copy)]
-enum Name {
-    Open,
-    Run,
-    Tally,
+    Open(Opening),
+    Run { worker: u64, text: &'a [u8] },
+    Tally { key: u64, part: u64, number: u64 },
 }
 
 // The command that a line spells, none where it is not understood.
+#[tactic(auto, using(crate::proofs::Understood::understood, crate::proofs::Names::unnamed))]
 pub fn parse(line: &[u8]) -> Option<Command<'_>>
     ensures command { option_map meaning result ≡ command line.now }
     ensures plainly { PlainlyUnderstood }
 {
     let (word, words) = cut(line, b' ');
     let words = words?;
-    match command_named(word)? {
-        Name::Open => open(words),
-        Name::Run => run(words),
-        Name::Tally => tally(words),
+    match word {
+        b"open" => open(words),
+        b"run" => run(words),
+        b"tally" => tally(words),
+        _ => None,
     }
 }
 
 // The opening that the words behind `open` ask for.
+#[tactic(auto, using(crate::proofs::Names::kind_read))]
 fn open(words: &[u8]) -> Option<Command<'_>>
     ensures { option_map meaning result ≡ opening words.now }
 {
     let (workers, words) = leading(words)?;
     let (keys, words) = leading(words)?;
     let (first, words) = leading(words)?;
-    let kind = kind_named(words)?;
-    Some(Command::Open {
+    let kind = KindName::try_from(words).ok()?;
+    Some(Command::Open(Opening {
         workers,
         keys,
         first,
         kind,
-    })
+    }))
 }
 
 // The run that the words behind `run` ask for; a text that is left out is empty.
@@ -76,7 +88,7 @@ fn run(words: &[u8]) -> Option<Command<'_>>
     ensures { option_map meaning result ≡ running words.now }
 {
     let (worker, text) = cut(words, b' ');
-    let worker = number(worker)?;
+    let worker = digits(worker)?;
     Some(Command::Run {
         worker,
         text: text.unwrap_or(&[]),
@@ -90,7 +102,7 @@ fn tally(words: &[u8]) -> Option<Command<'_>>
     let (tally, shown) = cut(words, b' ');
     let shown = shown?;
     let (key, part) = key_and_part(tally)?;
-    let number = number(shown)?;
+    let number = digits(shown)?;
     Some(Command::Tally { key, part, number })
 }
 
@@ -99,8 +111,8 @@ fn key_and_part(word: &[u8]) -> Option<(u64, u64)>
     ensures { result ≡ keyed word.now }
 {
     let (key, part) = cut(word, b'.');
-    let key = number(key)?;
-    let part = number(part?)?;
+    let key = digits(key)?;
+    let part = digits(part?)?;
     Some((key, part))
 }
 
@@ -109,29 +121,6 @@ fn leading(words: &[u8]) -> Option<(u64, &[u8])>
     ensures { option_map led result ≡ leads words.now }
 {
     let (word, rest) = cut(words, b' ');
-    let n = number(word)?;
+    let n = digits(word)?;
     Some((n, rest?))
-}
-
-// The command that a word names, if it names one.
-fn command_named(word: &[u8]) -> Option<Name>
-    ensures { MatchOption result ((n : Name) → word.now ≢ name_text n) (λ n. word.now ≡ name_text n) }
-{
-    match word {
-        b"open" => Some(Name::Open),
-        b"run" => Some(Name::Run),
-        b"tally" => Some(Name::Tally),
-        _ => None,
-    }
-}
-
-// The kind that a word names, if it names one.
-fn kind_named(word: &[u8]) -> Option<KindName>
-    ensures { MatchOption result ((k : KindName) → word.now ≢ kind_text k) (λ k. word.now ≡ kind_text k) }
-{
-    match word {
-        b"count" => Some(KindName::Count),
-        b"four" => Some(KindName::Four),
-        _ => None,
-    }
 }

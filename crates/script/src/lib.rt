@@ -2,10 +2,10 @@
 #![tactic(auto)]
 
 mod commands;
+mod cuts;
 mod escapes;
 mod lines;
-mod words;
 
-pub use commands::{Command, KindName, parse};
-pub use escapes::unescape;
+pub use commands::{Command, KindName, Opening, UnknownKind, parse};
+pub use escapes::{UnescapeError, unescape};
 pub use lines::is_command;

@@ -1,7 +1,16 @@
 -- How numbers and keys are spelled, and what it is to read one.
-use Rattle.std.specs.Prelude.{◌≡◌, ℕ, ◌<◌, ◌≤◌, List, ◌∷◌, ◌++◌, ℤ, Some, None, decimal, Option, FitsSigned}
+use Rattle.std.specs.Prelude.{◌≡◌, ℕ, ◌^◌, ◌<◌, ◌≤◌, Bool, cond, ◌&&◌, List, ◌∷◌, ◌++◌, length, ℤ, Some, None, decimal, Option, FitsSigned, nat_lt}
 use Rattle.std.specs.Int.{w64}
 use Rattle.std.specs.Fmt.{signed_decimal}
+use Rattle.std.specs.Str.Parse.{digits_value}
+use Rattle.std.specs.Str.{all_ascii_digits}
+
+-- one decimal digit or more, whose value fits 64 bits
+abbrev pub is_numeral : List ℕ → Bool
+is_numeral w = nat_lt 0 (length w) && (all_ascii_digits w && nat_lt (digits_value 10 w) (2 ^ 64))
+
+abbrev pub numeral : List ℕ → Option ℕ
+numeral w = cond (is_numeral w) (Some (digits_value 10 w)) None
 
 -- a key and a part, with a point between them
 abbrev pub keyed : ℕ → ℕ → List ℕ

@@ -1,5 +1,23 @@
-// Reads bytes as a number, and takes only its canonical spelling.
-ghost use Rattle.words.specs.Numbers.{Decimal, Integer, Keyed, Spelt};
+// Reads bytes as a number.
+ghost use Rattle.std.specs.Prelude.{◌≡◌};
+ghost use Rattle.words.specs.Numbers.{Decimal, Integer, Keyed, Spelt, numeral};
+
+// The number that decimal digits spell, where it fits 64 bits; zeros may lead.
+pub fn digits(bytes: &[u8]) -> Option<u64>
+    ensures { result ≡ numeral bytes.now }
+{
+    if bytes.is_empty() {
+        return None;
+    }
+    let mut n: u64 = 0;
+    for b in bytes {
+        if *b < b'0' || *b > b'9' {
+            return None;
+        }
+        n = n.checked_mul(10)?.checked_add(u64::from(*b - b'0'))?;
+    }
+    Some(n)
+}
 
 // The number up to `most` that the bytes spell, if they spell one.
 pub fn unsigned(bytes: &[u8], most: u64) -> Option<u64>

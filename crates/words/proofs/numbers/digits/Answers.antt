@@ -1,24 +1,24 @@
--- What `number` ensures, where the search leaves it.
+-- What `digits` ensures, where the search leaves it.
 use Rattle.std.proofs.Common.{◌≡◌, ◌+◌, ◌<◌, length, get_or, Some, sym, ap, ◌∙◌, subst, arith, rules}
 use Rattle.std.specs.Str.Parse.{AllDigits, digits_value}
 use Rattle.std.proofs.lemmas.Int.Digits.{digits_value_more, digits_more}
 use Rattle.std.proofs.lemmas.List.{take_all}
 use Rattle.std.proofs.lemmas.Str.Parse.{digit_at}
 use Rattle.std.proofs.lemmas.Str.{digit_value_digit}
-use Rattle.script.proofs.Spelled.{front_value, spelt, unspelt}
-use Rattle.script.proofs.words.number.Goals as goal
-use Rattle.script.proofs.words.number.Goals.{then-b-lt48-via-then-b-lt48, then-b-lt48-via-else-b-lt48+then-b-gt57}
+use Rattle.words.proofs.Spelled.{front_value, spelt, unspelt}
+use Rattle.words.proofs.numbers.digits.Goals as goal
+use Rattle.words.proofs.numbers.digits.Goals.{then-b-lt48-via-then-b-lt48, then-b-lt48-via-else-b-lt48+then-b-gt57}
 
 pub returns-then-b-lt48 : goal.returns-then-b-lt48
 returns-then-b-lt48 c =
-    sym (unspelt c.args.word.now (λ some ds small.
-    let d = digit_at c.args.word.now c.loop-b.b-index ds (omega arith) in
+    sym (unspelt c.args.bytes.now (λ some ds small.
+    let d = digit_at c.args.bytes.now c.loop-b.b-index ds (omega arith) in
     elim c.then-b-lt48.branch [ then-b-lt48-via-then-b-lt48 w ↦ omega arith | then-b-lt48-via-else-b-lt48+then-b-gt57 w ↦ omega arith ]))
 
 pub returns-in_err-checked_mul : goal.returns-in_err-checked_mul
 returns-in_err-checked_mul c =
     let i = c.loop-b.b-index in
-    let w = c.args.word.now in
+    let w = c.args.bytes.now in
     let one = digits_value_more 10 w i (omega arith) in
     c.from_residual.ensures ∙ sym (unspelt w (λ some ds small.
     let part = front_value (i + 1) 0 w in
@@ -27,7 +27,7 @@ returns-in_err-checked_mul c =
 pub returns-in_err-n : goal.returns-in_err-n
 returns-in_err-n c =
     let i = c.loop-b.b-index in
-    let w = c.args.word.now in
+    let w = c.args.bytes.now in
     let one = digits_value_more 10 w i (omega arith) in
     let is = digit_value_digit (get_or w i 0) (omega arith, omega arith) in
     c.from_residual-in_err-n.ensures ∙ sym (unspelt w (λ some ds small.
@@ -37,14 +37,14 @@ returns-in_err-n c =
 pub loop-b-preserved : goal.loop-b-preserved
 loop-b-preserved c =
     let i = c.loop-b.b-index in
-    let w = c.args.word.now in
+    let w = c.args.bytes.now in
     let one = digits_value_more 10 w i (omega arith) in
     let is = digit_value_digit (get_or w i 0) (omega arith, omega arith) in
     (digits_more 10 w i (omega arith) c.loop-b.invariant.0 (omega arith), omega (arith, c.in_ok-checked_mul.ensures, c.in_ok-n.ensures), omega (arith, c.in_ok-n.ensures))
 
 pub returns : goal.returns
 returns c =
-    let w = c.args.word.now in
+    let w = c.args.bytes.now in
     let all = take_all c.loop-b.b-index w (omega arith) in
     let v : c.loop-b.n ≡ digits_value 10 w = c.loop-b.invariant.1 ∙ ap (digits_value 10) all in
     let some : 0 < length w = search rules in

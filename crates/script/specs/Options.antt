@@ -1,6 +1,0 @@
--- One step after another, where each may answer nothing.
-use Rattle.std.specs.Prelude.{Some, None, Option}
-
-abbrev pub and_then : {X Y : Type 0} → Option X → (X → Option Y) → Option Y
-and_then None f = None
-and_then (Some x) f = f x
