@@ -8,7 +8,7 @@ ghost use Rattle.replies.specs.Totals.{nil, counted, Fair};
 use crate::engine::Engine;
 use replies::reply::{Failure, Reply};
 use replies::totals::Totals;
-use script::{Command, KindName, parse, unescape};
+use script::{Command, Opening, parse, unescape};
 use std::alloc::Global;
 
 // The engine that is open, if one is, and the totals so far.
@@ -58,34 +58,20 @@ fn reply(engine: &mut Option<Engine>, heap: Global, line: &[u8]) -> Result<Reply
 {
     match parse(line) {
         None => Err(Failure::NotUnderstood),
-        Some(
-            Command::Open {
-                workers,
-                keys,
-                first,
-                kind,
-            },
-        ) => open(engine, heap, workers, keys, first, kind),
+        Some(Command::Open(opening)) => open(engine, heap, opening),
         Some(Command::Run { worker, text }) => run(engine, heap, worker, text),
         Some(Command::Tally { key, part, number }) => tally(engine, key, part, number),
     }
 }
 
 // Opens an engine, unless one is open.
-fn open(
-    engine: &mut Option<Engine>,
-    heap: Global,
-    workers: u64,
-    keys: u64,
-    first: u64,
-    kind: KindName,
-) -> Result<Reply, Failure>
-    ensures { Opens (engine_of engine.old) workers keys first kind (told result) (engine_of engine.new) }
+fn open(engine: &mut Option<Engine>, heap: Global, opening: Opening) -> Result<Reply, Failure>
+    ensures { Opens (engine_of engine.old) opening.workers opening.keys opening.first opening.kind (told result) (engine_of engine.new) }
 {
     if engine.is_some() {
         return Err(Failure::EngineOpen);
     }
-    *engine = Some(Engine::open(heap, workers, keys, first, kind)?);
+    *engine = Some(Engine::open(heap, opening)?);
     Ok(Reply::Joined)
 }
 
@@ -98,7 +84,7 @@ fn run(
 ) -> Result<Reply, Failure>
     ensures { Runs (engine_of engine.old) worker written.now (told result) (engine_of engine.new) }
 {
-    let text = unescape(heap, written)?.ok_or(Failure::NotUnderstood)?;
+    let text = unescape(heap, written)?;
     let engine = engine.as_mut().ok_or(Failure::NoEngine)?;
     Ok(Reply::Committed(engine.run(worker, text.as_slice())?))
 }

@@ -10,7 +10,7 @@ ghost use Rattle.desk.specs.Turns.{shown_told};
 use four::Four;
 use kinds::kind::Kind;
 use numbers::count::Count;
-use script::KindName;
+use script::{KindName, Opening};
 use solo::refusal::Refusal;
 use solo::solo::{Committed, Solo};
 use std::alloc::Global;
@@ -24,15 +24,10 @@ pub enum Engine {
 
 impl Engine {
     // An engine of a kind with its values at their start.
-    pub fn open(
-        heap: Global,
-        workers: u64,
-        keys: u64,
-        first: u64,
-        kind: KindName,
-    ) -> Result<Engine, Refusal>
-        ensures { coded opened result ≡ opened_as workers keys first kind (is_ok result) }
+    pub fn open(heap: Global, opening: Opening) -> Result<Engine, Refusal>
+        ensures { coded opened result ≡ opened_as opening.workers opening.keys opening.first opening.kind (is_ok result) }
     {
+        let Opening { workers, keys, first, kind } = opening;
         match kind {
             KindName::Count => {
                 let solo = Solo::open(heap, workers, keys, first, Count::new())?;

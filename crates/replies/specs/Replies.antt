@@ -3,6 +3,9 @@ use Rattle.std.specs.Prelude.{ℕ, List, ℤ, Some, None, Ok, Err, Option, Resul
 use Rattle.solo.specs.Codes.{code}
 use Rattle.solo.specs.Rules.{Commit}
 use Rattle.solo.specs.View.{commit_of}
+use Rattle.solo.specs.declared.refusal.Refusal.{Refusal}
+use Rattle.script.specs.declared.escapes.UnescapeError.{UnescapeError}
+use Rattle.script.specs.declared.escapes.UnescapeError.TheVariants.{BadEscape}
 use Rattle.replies.specs.declared.reply.Reply.{Reply}
 use Rattle.replies.specs.declared.reply.Reply.TheVariants.{Joined, Committed, Number}
 use Rattle.replies.specs.declared.reply.Failure.{Failure}
@@ -30,6 +33,11 @@ told_failure EngineOpen = engine_open
 told_failure NoEngine = no_engine
 told_failure NoSuchNumber = no_such_number
 told_failure (Refused r) = refused (code r)
+
+-- why a text whose escapes are not read is not run
+abbrev pub failure_of : UnescapeError → Failure
+failure_of BadEscape = NotUnderstood
+failure_of UnescapeError.Memory = Refused Refusal.Memory
 
 -- what an answer tells
 abbrev pub told : Result Reply Failure → Told

@@ -1,11 +1,11 @@
 // What a command is answered: what it gave, or why it is not served.
 ghost use Rattle.std.specs.Prelude.{◌≡◌};
 ghost use Rattle.replies.specs.declared.reply.Failure.TheVariants.{Refused as RefusedWith};
-ghost use Rattle.solo.specs.declared.refusal.Refusal.TheVariants.{Memory};
+ghost use Rattle.replies.specs.Replies.{failure_of};
 
+use script::UnescapeError;
 use solo::refusal::Refusal;
 use solo::solo::Committed;
-use std::alloc::AllocError;
 
 // What a command gave: an engine was opened, a transaction committed, or a number is shown.
 #[derive(Clone, Copy)]
@@ -34,11 +34,14 @@ impl From<Refusal> for Failure {
     }
 }
 
-// Want of memory is the refusal without a number.
-impl From<AllocError> for Failure {
-    ghost from_gives = { λ _ f. f ≡ RefusedWith Memory };
+// A text with a bad escape is not understood; where there is no memory to read it, that is the refusal without a number.
+impl From<UnescapeError> for Failure {
+    ghost from_gives = { λ error f. f ≡ failure_of error };
 
-    fn from(_fault: AllocError) -> Failure {
-        Failure::Refused(Refusal::Memory)
+    fn from(error: UnescapeError) -> Failure {
+        match error {
+            UnescapeError::BadEscape => Failure::NotUnderstood,
+            UnescapeError::Memory => Failure::Refused(Refusal::Memory),
+        }
     }
 }
