@@ -10,7 +10,7 @@ use Rattle.solo.specs.Rules.{State, Commit, Turn, early, late, refuses, commits,
 
 and_second : (a b : Bool) → (a && b) ≡ true → b ≡ true
 and_second true b h = h
-and_second false b h = absurd (let z : ◌≡◌ {A = ℕ} 0 1 = cc in omega arith)
+and_second false b h = cc
 
 module _ {M : Type 0} (k : Model M) where
   module _ (s : State M) (w : ℕ) (text : List ℕ) (t : Turn M) where
@@ -76,13 +76,13 @@ module _ {M : Type 0} (k : Model M) where
         let last = and_second (leb 1 workers && leb workers 8 && leb 1 keys && leb keys 1024) (leb 1 first) h in
         let same : s ≡ opened = cc in
         from_first (leb-true 1 first last) same r
-    by_figures false h e r = absurd (let z : ◌≡◌ {A = ℕ} 0 1 = cc in omega arith)
+    by_figures false h e r = cc
 
   still : (s m : State M) (w : ℕ) (text c : List ℕ) → Either s w text (record { state = m; answer = Err c }) → m ≡ s
   still s m w text c (inl r) = ap (λ (t : Turn M). t.state) r.1
   still s m w text c (inr r) =
       let e : ◌≡◌ {A = Result Commit (List ℕ)} (Err c) (commits k s w r.0).answer = ap (λ (t : Turn M). t.answer) r.2 in
-      absurd (let z : ◌≡◌ {A = ℕ} 0 1 = cc in omega arith)
+      cc
 
 pub whole_runs : {M : Type 0} (k : Model M) → WholeRuns k
 whole_runs k = record {
