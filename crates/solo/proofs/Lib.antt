@@ -1,2 +1,2 @@
 pub mod History
-pub mod Looking
+pub mod Turning
