@@ -3,17 +3,17 @@ ghost use Rattle.std.specs.Prelude.{◌≡◌, is_ok};
 ghost use Rattle.solo.specs.View.{view};
 ghost use Rattle.replies.specs.Replies.{told};
 ghost use Rattle.desk.specs.Turns.{shown_told, RanOn};
-ghost use Rattle.solo.specs.Codes.{coded};
+ghost use Rattle.refusals.specs.Codes.{coded};
 ghost use Rattle.desk.specs.Engines.{engine_of, opened_as};
 ghost use Rattle.desk.specs.Commands.{Opens, Runs, Replies, number_told};
 
 use four::Four;
 use kinds::kind::Kind;
 use numbers::count::Count;
+use refusals::Refusal;
 use replies::reply::Reply;
 use script::{Command, KindName, parse, unescape};
-use solo::refusal::Refusal;
-use solo::solo::Solo;
+use solo::solo::{Figures, Solo};
 use std::alloc::Global;
 
 // An engine of either kind, or none.
@@ -51,7 +51,12 @@ impl Engine {
         let Engine::Closed = self else {
             return Reply::EngineOpen;
         };
-        match opened(heap, workers, keys, first, kind) {
+        let figures = Figures {
+            workers,
+            keys,
+            first,
+        };
+        match opened(heap, figures, kind) {
             Ok(engine) => {
                 *self = engine;
                 Reply::Joined
@@ -88,22 +93,16 @@ impl Engine {
 }
 
 // An engine of a kind with its values at their start.
-fn opened(
-    heap: Global,
-    workers: u64,
-    keys: u64,
-    first: u64,
-    kind: KindName,
-) -> Result<Engine, Refusal>
-    ensures { coded engine_of result ≡ opened_as workers keys first kind (is_ok result) }
+fn opened(heap: Global, figures: Figures, kind: KindName) -> Result<Engine, Refusal>
+    ensures { coded engine_of result ≡ opened_as figures.workers figures.keys figures.first kind (is_ok result) }
 {
     match kind {
         KindName::Count => {
-            let solo = Solo::open(heap, workers, keys, first, Count::new())?;
+            let solo = Solo::open(heap, figures, Count::new())?;
             Ok(Engine::Counts(solo))
         }
         KindName::Four => {
-            let solo = Solo::open(heap, workers, keys, first, four::start())?;
+            let solo = Solo::open(heap, figures, four::start())?;
             Ok(Engine::Fours(solo))
         }
     }

@@ -1,6 +1,6 @@
 -- What a reply says.
 use Rattle.std.specs.Prelude.{ℕ, List, ℤ, Some, None, Ok, Err, Option, Result}
-use Rattle.solo.specs.Codes.{code}
+use Rattle.refusals.specs.Codes.{code}
 use Rattle.solo.specs.Rules.{Commit}
 use Rattle.solo.specs.View.{commit_of}
 use Rattle.replies.specs.declared.reply.Reply.{Reply}

@@ -1,9 +1,9 @@
 // What a command is answered.
-use solo::refusal::Refusal;
+use refusals::Refusal;
 use solo::solo::Committed;
 
 // The outcome of a command.
-#[derive(Clone, Copy)]
+#[derive(Drop)]
 pub enum Reply {
     Joined,
     Committed(Committed),
