@@ -1,6 +1,6 @@
 // The engine that a session has open.
 ghost use Rattle.std.specs.Prelude.{◌≡◌, is_ok};
-ghost use Rattle.solo.specs.Codes.{coded};
+ghost use Rattle.refusals.specs.Codes.{coded};
 ghost use Rattle.solo.specs.View.{view, commit_of};
 ghost use Rattle.replies.specs.Replies.{told_turn, told_number};
 ghost use Rattle.desk.specs.Commands.{RunsText, number_told};
@@ -10,9 +10,9 @@ ghost use Rattle.desk.specs.Turns.{shown_told};
 use four::Four;
 use kinds::kind::Kind;
 use numbers::count::Count;
+use refusals::Refusal;
 use script::{KindName, Opening};
-use solo::refusal::Refusal;
-use solo::solo::{Committed, Solo};
+use solo::solo::{Committed, Figures, Solo};
 use std::alloc::Global;
 
 // An engine of either kind.
@@ -27,14 +27,18 @@ impl Engine {
     pub fn open(heap: Global, opening: Opening) -> Result<Engine, Refusal>
         ensures { coded opened result ≡ opened_as opening.workers opening.keys opening.first opening.kind (is_ok result) }
     {
-        let Opening { workers, keys, first, kind } = opening;
-        match kind {
+        let figures = Figures {
+            workers: opening.workers,
+            keys: opening.keys,
+            first: opening.first,
+        };
+        match opening.kind {
             KindName::Count => {
-                let solo = Solo::open(heap, workers, keys, first, Count::new())?;
+                let solo = Solo::open(heap, figures, Count::new())?;
                 Ok(Engine::Counts(solo))
             }
             KindName::Four => {
-                let solo = Solo::open(heap, workers, keys, first, four::start())?;
+                let solo = Solo::open(heap, figures, four::start())?;
                 Ok(Engine::Fours(solo))
             }
         }

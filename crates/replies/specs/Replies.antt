@@ -1,11 +1,11 @@
 -- What a reply says.
 use Rattle.std.specs.Prelude.{ℕ, List, ℤ, Some, None, Ok, Err, Option, Result}
-use Rattle.solo.specs.Codes.{code}
+use Rattle.refusals.specs.Codes.{code}
 use Rattle.solo.specs.Rules.{Commit}
 use Rattle.solo.specs.View.{commit_of}
-use Rattle.solo.specs.declared.refusal.Refusal.{Refusal}
+use Rattle.refusals.specs.declared.Refusal.TheVariants.{Memory as NoMemory}
 use Rattle.script.specs.declared.escapes.UnescapeError.{UnescapeError}
-use Rattle.script.specs.declared.escapes.UnescapeError.TheVariants.{BadEscape}
+use Rattle.script.specs.declared.escapes.UnescapeError.TheVariants.{BadEscape, Memory}
 use Rattle.replies.specs.declared.reply.Reply.{Reply}
 use Rattle.replies.specs.declared.reply.Reply.TheVariants.{Joined, Committed, Number}
 use Rattle.replies.specs.declared.reply.Failure.{Failure}
@@ -37,7 +37,7 @@ told_failure (Refused r) = refused (code r)
 -- why a text whose escapes are not read is not run
 abbrev pub failure_of : UnescapeError → Failure
 failure_of BadEscape = NotUnderstood
-failure_of UnescapeError.Memory = Refused Refusal.Memory
+failure_of Memory = Refused NoMemory
 
 -- what an answer tells
 abbrev pub told : Result Reply Failure → Told

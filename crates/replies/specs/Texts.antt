@@ -1,19 +1,13 @@
 -- How replies are written.
-use Rattle.std.specs.Prelude.{ℕ, List, [], ◌∷◌, ◌++◌, ℤ, codes, decimal}
+use Rattle.std.specs.Prelude.{ℕ, List, ◌++◌, ℤ, codes, decimal}
 use Rattle.std.specs.List.{flat_map as all_of}
 use Rattle.std.specs.Fmt.{signed_decimal}
+use Rattle.refusals.specs.Texts.{refusal_text}
 use Rattle.replies.specs.Replies.{Told, joined, committed, number, not_understood, engine_open, no_engine, no_such_number, refused}
 
 -- each answer after a space
 abbrev pub answers_text : List ℤ → List ℕ
 answers_text answers = all_of (λ n. codes " " ++ signed_decimal n) answers
-
--- the number of a refusal, the entry and the byte that it names; want of memory has no number
-abbrev pub refusal_text : List ℕ → List ℕ
-refusal_text [] = codes "no memory"
-refusal_text (n ∷ []) = codes "refused " ++ decimal n
-refusal_text (n ∷ e ∷ []) = codes "refused " ++ (decimal n ++ (codes " entry " ++ decimal e))
-refusal_text (n ∷ e ∷ b ∷ more) = codes "refused " ++ (decimal n ++ (codes " entry " ++ (decimal e ++ (codes " byte " ++ decimal b))))
 
 abbrev pub reply_text : Told → List ℕ
 reply_text joined = codes "joined"

@@ -3,12 +3,12 @@ ghost use Rattle.std.specs.Prelude.{◌≡◌};
 ghost use Rattle.replies.specs.declared.reply.Failure.TheVariants.{Refused as RefusedWith};
 ghost use Rattle.replies.specs.Replies.{failure_of};
 
+use refusals::Refusal;
 use script::UnescapeError;
-use solo::refusal::Refusal;
 use solo::solo::Committed;
 
 // What a command gave: an engine was opened, a transaction committed, or a number is shown.
-#[derive(Clone, Copy)]
+#[derive(Drop)]
 pub enum Reply {
     Joined,
     Committed(Committed),

@@ -1,16 +1,12 @@
 -- Every whole run is a serial one.
 use Rattle.std.proofs.Common.{◌≡◌, ℕ, ◌+◌, ◌-◌, ◌≤◌, Bool, true, false, cond, ◌&&◌, leb, ◌⊎◌, List, [], ◌∷◌, ◌++◌, length, replicate, Some, None, Ok, Err, Option, Result, sym, refl, ap, ◌∙◌, subst, inl, inr, add-one, arith}
-use Rattle.std.proofs.lemmas.Bool.{leb-true}
+use Rattle.std.proofs.lemmas.Bool.{and_parts, leb-true}
 use Rattle.kinds.specs.Model.{Model}
 use Rattle.slips.specs.Reads.{ReadAs}
 use Rattle.slips.specs.declared.entry.Entry.{Entry}
 use Rattle.serial.specs.Serial.{serial}
 use Rattle.solo.specs.History.{Asked, place_in, places_of, numbers, Turns, Then, Serially, History, WholeRuns}
 use Rattle.solo.specs.Rules.{State, Commit, Turn, early, late, refuses, commits, run_late, run_read, RunBy, RunAs, good_figures}
-
-and_second : (a b : Bool) → (a && b) ≡ true → b ≡ true
-and_second true b h = h
-and_second false b h = absurd (let z : ◌≡◌ {A = ℕ} 0 1 = cc in omega arith)
 
 module _ {M : Type 0} (k : Model M) where
   module _ (s : State M) (w : ℕ) (text : List ℕ) (t : Turn M) where
@@ -73,16 +69,16 @@ module _ {M : Type 0} (k : Model M) where
 
     by_figures : (b : Bool) → good_figures workers keys first ≡ b → cond {A = Result (State M) (List ℕ)} b (Ok opened) (Err (1 ∷ [])) ≡ Ok s → Turns k s ts s' → History k first (replicate keys start) ts s'
     by_figures true h e r =
-        let last = and_second (leb 1 workers && leb workers 8 && leb 1 keys && leb keys 1024) (leb 1 first) h in
+        let last = and_parts (leb 1 workers && leb workers 8 && leb 1 keys && leb keys 1024) (leb 1 first) h in
         let same : s ≡ opened = cc in
-        from_first (leb-true 1 first last) same r
-    by_figures false h e r = absurd (let z : ◌≡◌ {A = ℕ} 0 1 = cc in omega arith)
+        from_first (leb-true 1 first last.1) same r
+    by_figures false h e r = cc
 
   still : (s m : State M) (w : ℕ) (text c : List ℕ) → Either s w text (record { state = m; answer = Err c }) → m ≡ s
   still s m w text c (inl r) = ap (λ (t : Turn M). t.state) r.1
   still s m w text c (inr r) =
       let e : ◌≡◌ {A = Result Commit (List ℕ)} (Err c) (commits k s w r.0).answer = ap (λ (t : Turn M). t.answer) r.2 in
-      absurd (let z : ◌≡◌ {A = ℕ} 0 1 = cc in omega arith)
+      cc
 
 pub whole_runs : {M : Type 0} (k : Model M) → WholeRuns k
 whole_runs k = record {

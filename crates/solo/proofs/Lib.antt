@@ -1,5 +1,2 @@
-pub mod Admitting
 pub mod History
-pub mod Looking
-pub mod Searching
 pub mod Turning

@@ -1,4 +1,3 @@
-pub mod Codes
 pub mod History
 pub mod Rules
 pub mod View

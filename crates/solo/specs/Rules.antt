@@ -1,5 +1,5 @@
 -- The rules of the engine: what it holds, how a turn is refused, and what a committed one does.
-use Rattle.std.specs.Prelude.{◌≡◌, ℕ, suc, ◌+◌, ◌-◌, ◌^◌, Bool, cond, not, ◌&&◌, List, [], ◌∷◌, length, replicate, ℤ, Some, None, Ok, Err, Option, Result, ◌==◌, nat_le, nat_lt}
+use Rattle.std.specs.Prelude.{◌≡◌, ℕ, ◌+◌, ◌-◌, ◌^◌, Bool, cond, not, ◌&&◌, List, [], ◌∷◌, length, replicate, ℤ, Some, None, Ok, Err, Option, Result, ◌==◌, nat_le, nat_lt, position}
 use Rattle.kinds.specs.Model.{Model}
 use Rattle.slips.specs.Reads.{ReadAs}
 use Rattle.slips.specs.declared.entry.Action.{Action}
@@ -29,11 +29,6 @@ pub record Turn (M : Type 0) : Type 0 where
 abbrev pub first_of : List (Bool × List ℕ) → Option (List ℕ)
 first_of [] = None
 first_of (t ∷ ts) = cond t.0 (Some t.1) (first_of ts)
-
--- the number of the first entry that the test finds wrong, from number i on
-abbrev pub first_entry : (Entry → Bool) → ℕ → List Entry → Option ℕ
-first_entry wrong i [] = None
-first_entry wrong i (e ∷ es) = cond (wrong e) (Some i) (first_entry wrong (suc i) es)
 
 -- the code with the entry that was found, or else the next one
 abbrev pub at_entry : ℕ → Option ℕ → Option (List ℕ) → Option (List ℕ)
@@ -77,7 +72,7 @@ module _ {M : Type 0} (k : Model M) where
 
   -- refused for what the entries say: a key with no record in any of them comes before an operation that is not taken
   abbrev pub late : ℕ → ℕ → List Entry → Option (List ℕ)
-  late keys w es = at_entry 10 (first_entry (no_record keys) 0 es) (at_entry 11 (first_entry (not_taken w) 0 es) None)
+  late keys w es = at_entry 10 (position (no_record keys) es) (at_entry 11 (position (not_taken w) es) None)
 
   abbrev pub refuses : State M → List ℕ → Turn M
   refuses s c = record { state = s; answer = Err c }

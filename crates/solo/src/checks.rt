@@ -1,11 +1,11 @@
 // What is tested of a transaction's entries before any of them runs.
-ghost use Rattle.std.specs.Prelude.{◌≡◌};
-ghost use Rattle.solo.specs.Codes.{coded};
-ghost use Rattle.solo.specs.Rules.{first_entry, late, no_record, not_taken, refuse_or, takes as taken_by};
+ghost use Rattle.std.specs.Prelude.{◌≡◌, position};
+ghost use Rattle.refusals.specs.Codes.{coded};
+ghost use Rattle.solo.specs.Rules.{late, no_record, not_taken, refuse_or, takes as taken_by};
 
-use crate::refusal::Refusal;
 use kinds::kind::Kind;
 use kinds::operation::Argument;
+use refusals::Refusal;
 use slips::entry::{Action, Entry};
 
 // Refuses the first entry whose key has no record, and if each has one, the first that the kind does not take.
@@ -27,26 +27,18 @@ pub(crate) fn check_entries<K: Kind>(
 
 // The number of the first entry whose key has no record.
 fn find_no_record(keys: usize, entries: &[Entry]) -> Option<usize>
-    ensures { result ≡ first_entry (no_record keys) 0 entries.now }
+    ensures { result ≡ position (no_record keys) entries.now }
 {
-    for (i, entry) in entries.iter().enumerate() {
-        if entry.key as usize >= keys {
-            return Some(i);
-        }
-    }
-    None
+    entries
+        .iter()
+        .position(|entry| usize::from(entry.key) >= keys)
 }
 
 // The number of the first entry that the kind does not take.
 fn find_not_taken<K: Kind>(worker: u8, entries: &[Entry]) -> Option<usize>
-    ensures { result ≡ first_entry (not_taken K.Kind.model worker) 0 entries.now }
+    ensures { result ≡ position (not_taken K.Kind.model worker) entries.now }
 {
-    for (i, entry) in entries.iter().enumerate() {
-        if !takes::<K>(worker, *entry) {
-            return Some(i);
-        }
-    }
-    None
+    entries.iter().position(|entry| !takes::<K>(worker, *entry))
 }
 
 // Whether the kind takes the entry's operation, or has the number that the entry reads.

@@ -2,5 +2,4 @@
 #![tactic(auto)]
 
 pub mod checks;
-pub mod refusal;
 pub mod solo;

@@ -1,14 +1,14 @@
 // The engine: a value for each key, on which transactions run one at a time, each at once and at the next place.
 ghost use Rattle.std.specs.Prelude.{◌≡◌, ◌-◌, ◌^◌, map, replicate, is_ok, IfOk, Ok, ◌≢◌};
 ghost use Rattle.slips.specs.Listed.{entries_of};
-ghost use Rattle.solo.specs.Codes.{coded};
+ghost use Rattle.refusals.specs.Codes.{coded};
 ghost use Rattle.solo.specs.History.{WholeRuns};
 ghost use Rattle.solo.specs.Rules.{commits, early, good_figures, opening, refuse_or, shown_at, RunAs, Turn};
 ghost use Rattle.solo.specs.View.{commit_of, view};
 
 use crate::checks::check_entries;
-use crate::refusal::Refusal;
 use kinds::kind::Kind;
+use refusals::Refusal;
 use serial::readings::Readings;
 use serial::run::run_alone;
 use slips::entries::Entries;
@@ -16,10 +16,18 @@ use slips::read;
 use std::alloc::{AllocError, Global};
 
 // What a committed transaction is told: its place in the serial order, and what it read.
-#[derive(Clone, Copy)]
+#[derive(Drop)]
 pub struct Committed {
     pub place: u64,
     pub readings: Readings,
+}
+
+// What an engine is opened with: how many workers and keys it has, and its first place.
+#[derive(Clone, Copy)]
+pub struct Figures {
+    pub workers: u64,
+    pub keys: u64,
+    pub first: u64,
 }
 
 // The values, how many workers there are, and the last place that was given.
@@ -30,24 +38,28 @@ pub struct Solo<K> {
     values: Vec<K>,
 }
 
-impl<K: Kind> Solo<K> {
-    // An engine with `keys` values that are all `start`, whose first place is `first`.
-    pub fn open(
-        heap: Global,
-        workers: u64,
-        keys: u64,
-        first: u64,
-        start: K,
-    ) -> Result<Solo<K>, Refusal>
-        ensures { coded (view K.Kind.meaning) result ≡ opening workers keys first (K.Kind.meaning start) (is_ok result) }
+impl Figures {
+    // Whether an engine can be opened with them.
+    pub fn are_good(self) -> bool
+        ensures { result ≡ good_figures self.workers self.keys self.first }
     {
-        if !are_figures_good(workers, keys, first) {
+        (1..=8).contains(&self.workers) && (1..=1024).contains(&self.keys) && 1 <= self.first
+    }
+}
+
+impl<K: Kind> Solo<K> {
+    // An engine whose values are all `start`, one for each key.
+    pub fn open(heap: Global, figures: Figures, start: K) -> Result<Solo<K>, Refusal>
+        ensures { coded (view K.Kind.meaning) result ≡ opening figures.workers figures.keys figures.first (K.Kind.meaning start) (is_ok result) }
+    {
+        if !figures.are_good() {
             return Err(Refusal::Figures);
         }
-        let values = fill(heap, keys as usize, start)?;
+        let values = fill(heap, figures.keys, start)?;
+        // Good figures have no more than 8 workers: `u8::try_from` would want an answer for more than 255.
         Ok(Solo {
-            workers: workers as u8,
-            given: first - 1,
+            workers: figures.workers as u8,
+            given: figures.first - 1,
             values,
         })
     }
@@ -70,7 +82,8 @@ impl<K: Kind> Solo<K> {
         if !K::shows(part, number) {
             return None;
         }
-        let value = self.values.get(key as usize)?;
+        let key = usize::try_from(key).ok()?;
+        let value = self.values.get(key)?;
         Some(value.shown(part, number))
     }
 
@@ -78,13 +91,15 @@ impl<K: Kind> Solo<K> {
     fn admit(&self, worker: u64) -> Result<u8, Refusal>
         ensures { coded (λ w. w) result ≡ refuse_or (early K.Kind.model (view K.Kind.meaning self.now) worker) worker }
     {
-        if worker >= self.workers as u64 {
-            return Err(Refusal::NoWorker);
-        }
+        let workers = self.workers;
+        let worker = match u8::try_from(worker) {
+            Ok(worker) if worker < workers => worker,
+            _ => return Err(Refusal::NoWorker),
+        };
         if self.given == u64::MAX {
             return Err(Refusal::TicketsOut);
         }
-        Ok(worker as u8)
+        Ok(worker)
     }
 
     // Runs the entries on the values, at the next place.
@@ -106,20 +121,9 @@ pub fn promise<K: Kind>()
     ensures { WholeRuns K.Kind.model }
 {}
 
-// The figures that an engine can be opened with.
-fn are_figures_good(workers: u64, keys: u64, first: u64) -> bool
-    ensures { result ≡ good_figures workers keys first }
-{
-    1 <= workers && workers <= 8 && 1 <= keys && keys <= 1024 && 1 <= first
-}
-
 // As many values as there are keys, all the same.
-fn fill<K: Kind>(heap: Global, keys: usize, start: K) -> Result<Vec<K>, AllocError>
+fn fill<K: Kind>(heap: Global, keys: u64, start: K) -> Result<Vec<K>, AllocError>
     ensures { IfOk result (λ v. map K.Kind.meaning v.items ≡ replicate keys (K.Kind.meaning start)) }
 {
-    let mut values = Vec::with_capacity(heap, keys)?;
-    for _i in 0..keys {
-        values.push(start)?;
-    }
-    Ok(values)
+    (0..keys).map(|_| start).collect(heap)
 }

@@ -5,9 +5,9 @@ use Rattle.desk.proofs.engine.Engine.open.Goals as goal
 
 pub returns-in_ok-solo-in-Count : goal.returns-in_ok-solo-in-Count
 returns-in_ok-solo-in-Count c =
-    opened_count c.args.workers c.args.keys c.args.first c.args.kind _ (amount_of c.new.result) c.in-Count.is c.new.ensures c.in_ok-solo-in-Count.ensures
+    opened_count c.args.opening.workers c.args.opening.keys c.args.opening.first c.args.opening.kind _ (amount_of c.new.result) c.in-Count.is c.new.ensures c.in_ok-solo-in-Count.ensures
 
 pub returns-in_ok-solo-in-Four : goal.returns-in_ok-solo-in-Four
 returns-in_ok-solo-in-Four c =
     let start = c.start.ensures in
-    opened_four c.args.workers c.args.keys c.args.first c.args.kind _ (quad_of c.start.result) c.in-Four.is start.count start.lean start.last start.ten c.in_ok-solo-in-Four.ensures
+    opened_four c.args.opening.workers c.args.opening.keys c.args.opening.first c.args.opening.kind _ (quad_of c.start.result) c.in-Four.is start.count start.lean start.last start.ten c.in_ok-solo-in-Four.ensures

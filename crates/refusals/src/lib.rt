@@ -1,11 +1,15 @@
-// Why a call gave nothing.
-ghost use Rattle.std.specs.Prelude.{◌≡◌, []};
+// Why a call gave nothing: the refusals of every engine, with their numbers and the values that they name.
+#![tactic(auto)]
+
+ghost use Rattle.std.specs.Prelude.{◌≡◌, [], Some};
 ghost use Rattle.std.specs.List.{slice_get};
 ghost use Rattle.slips.specs.Reads.{code as fault_code};
-ghost use Rattle.protocol.specs.Codes.{code};
+ghost use Rattle.refusals.specs.Codes.{code};
+ghost use Rattle.refusals.specs.Texts.{refusal_text};
 
 use slips::fault::Fault;
 use std::alloc::AllocError;
+use std::fmt;
 
 // A refusal has a number, and may name an entry and a byte of the text. `Memory` has no number.
 #[derive(Clone, Copy)]
@@ -78,6 +82,22 @@ impl Refusal {
         match *self {
             Refusal::Grammar { byte, .. } => Some(byte),
             _ => None,
+        }
+    }
+}
+
+// The number, and then the entry and the byte that the refusal names.
+impl fmt::Display for Refusal {
+    ghost output = { λ r. Some (refusal_text (code r)) };
+
+    fn fmt<W: fmt::Write>(&self, f: &mut fmt::Formatter<W>) -> fmt::Result {
+        match (self.number(), self.entry(), self.byte()) {
+            (None, _, _) => write!(f, "no memory"),
+            (Some(number), None, _) => write!(f, "refused {number}"),
+            (Some(number), Some(entry), None) => write!(f, "refused {number} entry {entry}"),
+            (Some(number), Some(entry), Some(byte)) => {
+                write!(f, "refused {number} entry {entry} byte {byte}")
+            }
         }
     }
 }
