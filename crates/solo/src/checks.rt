@@ -46,8 +46,7 @@ fn takes<K: Kind>(worker: u8, entry: Entry) -> bool
     ensures { result ≡ taken_by K.Kind.model worker entry entry.action }
 {
     match entry.action {
-        Action::Show { number } => K::shows(entry.part, number),
-        Action::Need { number, .. } => K::shows(entry.part, number),
+        Action::Show { number } | Action::Need { number, .. } => K::shows(entry.part, number),
         Action::Change { verb, number, mark } => {
             K::takes(
                 entry.part,
