@@ -1,6 +1,6 @@
 -- A run alone, one entry after another from the front.
-use Rattle.std.proofs.Common.{◌≡◌, ℕ, suc, ◌+◌, ◌<◌, ◌≤◌, Bool, true, false, cond, List, [], ◌∷◌, ◌++◌, length, get_or, drop, ℤ, Some, None, sym, ap, ◌∙◌, append_assoc, append-nil, add-one}
-use Rattle.std.proofs.lemmas.List.{at_drop_more, at_drop_all}
+use Rattle.std.proofs.Common.{◌≡◌, ℕ, suc, ◌+◌, ◌<◌, ◌≤◌, Bool, true, false, cond, List, [], ◌∷◌, ◌++◌, length, get_or, drop, ℤ, Some, None, sym, ap, ◌∙◌, append_assoc, append-nil, add-one, arith}
+use Rattle.std.proofs.lemmas.List.{at_drop_more, at_drop_all, length-append}
 use Rattle.std.proofs.lemmas.Bool.{true≢false}
 use Rattle.kinds.specs.Model.{Model}
 use Rattle.slips.specs.declared.entry.Action.{Action}
@@ -12,6 +12,12 @@ use Rattle.serial.specs.Serial.{Ran, reads, after, before, serial}
 -- a run whose first answers are there already
 abbrev pub follow : {M : Type 0} → List ℤ → Ran M → Ran M
 follow front r = record { values = r.values; answers = front ++ r.answers; skipped = r.skipped }
+
+-- an entry tells one number at most
+tells_few : {M : Type 0} (k : Model M) (e : Entry) (vs : List M) (a : Action) → length (tells k e a vs) ≤ 1
+tells_few k e vs (Show n) = omega arith
+tells_few k e vs (Need n b) = omega arith
+tells_few k e vs (Change v n m) = omega arith
 
 module _ {M : Type 0} (k : Model M) (w i : ℕ) (e : Entry) (vs : List M) where
   -- an entry that does not fall short, before the rest
@@ -40,6 +46,9 @@ module _ {M : Type 0} (k : Model M) (w : ℕ) (es : List Entry) (i : ℕ) (front
     here = sym (at_drop_more (λ (x : List Entry). follow front (serial k w i x vs)) es i d within) ∙ so_far
 
     module _ (front' : List ℤ) (vs' : List M) (told : front' ≡ front ++ tells k e e.action vs) (done : vs' ≡ after k w e e.action vs) where
+      pub few : length front ≤ i → length front' ≤ i + 1
+      few h = omega (arith, ap length told, length-append front (tells k e e.action vs), tells_few k e vs e.action)
+
       pub goes : falls_short k e e.action vs ≡ false → follow front' (serial k w (i + 1) (drop (i + 1) es) vs') ≡ r
       goes h =
           ap (λ (x : List M). follow front' (serial k w (i + 1) (drop (i + 1) es) x)) done
