@@ -10,9 +10,6 @@ use Rattle.slips.proofs.reader.read.Goals as goal
 pub push-requires : goal.push-requires
 push-requires c = omega (arith, room _ _ _ _ _ c.loop-at.invariant c.in-Ok.ensures, c.count_endings.ensures)
 
-pub loop-at-preserved : goal.loop-at-preserved
-loop-at-preserved c = subst (λ l. Read c.args.text.now l c.in-Ok.next) (sym c.push.ensures.items) (read_more _ _ _ _ _ c.loop-at.invariant c.in-Ok.ensures)
-
 pub returns-in-Err : goal.returns-in-Err
 returns-in-Err c =
     let text = c.args.text.now in
