@@ -1,5 +1,6 @@
 -- One element of a list, as the meanings of the list see it.
-use Rattle.std.proofs.Common.{◌≡◌, ℕ, zero, suc, ◌<◌, ◌≤◌, List, [], ◌∷◌, map, length, get_or, set, ℤ, pos, sym, refl, ap, ◌∙◌, arith}
+use Rattle.std.proofs.Common.{◌≡◌, ℕ, zero, suc, ◌<◌, ◌≤◌, List, [], ◌∷◌, map, length, get_or, set, ℤ, pos, Some, None, Option, Bor, sym, refl, ap, ◌∙◌, arith}
+use Rattle.std.specs.Option.{MatchOption}
 use Rattle.std.proofs.lemmas.List.{map-set, get_or-map, length-map}
 use Rattle.serial.specs.Places.{modify, peek}
 
@@ -29,7 +30,7 @@ module _ {X M : Type 0} (meaning : X → M) (xs : List X) (i : ℕ) where
     meant : (d : M) → get_or (map meaning xs) i d ≡ meaning x
     meant d = get_or-map meaning xs i x d within ∙ ap meaning (sym found)
 
-    pub read_within : (f : M → ℤ) → f (meaning x) ≡ peek i f (map meaning xs)
+    read_within : (f : M → ℤ) → f (meaning x) ≡ peek i f (map meaning xs)
     read_within f = sym (peek_within f (map meaning xs) i (meaning x) (rw length-map within) ∙ ap f (meant (meaning x)))
 
     pub changed_within : (f : M → M) (y : X) → meaning y ≡ f (meaning x) → map meaning (set xs i y) ≡ modify i f (map meaning xs)
@@ -37,8 +38,16 @@ module _ {X M : Type 0} (meaning : X → M) (xs : List X) (i : ℕ) where
         map-set meaning xs i y ∙ ap (set (map meaning xs) i) (e ∙ ap f (sym (meant (meaning x)))) ∙ set_modify f (map meaning xs) i (meaning x)
 
   module _ (past : length xs ≤ i) where
-    pub read_past : (f : M → ℤ) → pos 0 ≡ peek i f (map meaning xs)
+    read_past : (f : M → ℤ) → pos 0 ≡ peek i f (map meaning xs)
     read_past f = sym (peek_past f (map meaning xs) i (rw length-map past))
 
     pub changed_past : (f : M → M) → map meaning xs ≡ modify i f (map meaning xs)
     changed_past f = sym (modify_past f (map meaning xs) i (rw length-map past))
+
+-- what is read off an element, or 0 where there is none
+pub read_at : {X M : Type 0} (meaning : X → M) (xs : List X) (i key : ℕ) (f : M → ℤ) (o : Option (Bor X)) (r : ℤ) → i ≡ key
+    → MatchOption o (length xs ≤ i) (λ x. (i < length xs) × (x.now ≡ get_or xs i x.now))
+    → MatchOption o (r ≡ pos 0) (λ x. r ≡ f (meaning x.now))
+    → r ≡ peek key f (map meaning xs)
+read_at meaning xs i key f None r e past none = none ∙ read_past meaning xs i past f ∙ ap (λ k. peek k f (map meaning xs)) e
+read_at meaning xs i key f (Some x) r e found is = is ∙ read_within meaning xs i x.now found.0 found.1 f ∙ ap (λ k. peek k f (map meaning xs)) e

@@ -1,13 +1,12 @@
 -- A run alone, one entry after another from the front.
-use Rattle.std.proofs.Common.{◌≡◌, ℕ, suc, ◌+◌, ◌<◌, ◌≤◌, Bool, true, false, cond, List, [], ◌∷◌, ◌++◌, length, get_or, drop, ℤ, Some, None, sym, ap, ◌∙◌, append_assoc, append-nil, add-one}
-use Rattle.std.proofs.lemmas.List.{at_drop_more, at_drop_all}
+use Rattle.std.proofs.Common.{◌≡◌, ℕ, Bool, true, false, cond, List, [], ◌∷◌, ◌++◌, ℤ, Some, sym, ap, ◌∙◌, append_assoc, append-nil}
 use Rattle.std.proofs.lemmas.Bool.{true≢false}
 use Rattle.kinds.specs.Model.{Model}
 use Rattle.slips.specs.declared.entry.Action.{Action}
 use Rattle.slips.specs.declared.entry.Action.TheVariants.{Show, Need, Change}
 use Rattle.slips.specs.declared.entry.Entry.{Entry}
 use Rattle.serial.specs.Alone.{tells, falls_short}
-use Rattle.serial.specs.Serial.{Ran, reads, after, before, serial}
+use Rattle.serial.specs.Serial.{Ran, reads, after, before}
 
 -- a run whose first answers are there already
 abbrev pub follow : {M : Type 0} → List ℤ → Ran M → Ran M
@@ -27,33 +26,3 @@ module _ {M : Type 0} (k : Model M) (w i : ℕ) (e : Entry) (vs : List M) where
   before_stops front rest (Show n) h = absurd (true≢false (sym h))
   before_stops front rest (Need n b) h = ap (λ (x : Bool). follow front (cond x (record { values = vs; answers = []; skipped = Some i }) rest)) h
   before_stops front rest (Change v n m) h = absurd (true≢false (sym h))
-
-module _ {M : Type 0} (k : Model M) (w : ℕ) (es : List Entry) (i : ℕ) (front : List ℤ) (vs : List M) (r : Ran M) (so_far : follow front (serial k w i (drop i es) vs) ≡ r) where
-  module _ (d : Entry) (within : i < length es) where
-    abbrev e : Entry
-    e = get_or es i d
-
-    abbrev rest : Ran M
-    rest = serial k w (suc i) (drop (i + 1) es) (after k w e e.action vs)
-
-    here : follow front (before k i e e.action vs rest) ≡ r
-    here = sym (at_drop_more (λ (x : List Entry). follow front (serial k w i x vs)) es i d within) ∙ so_far
-
-    module _ (front' : List ℤ) (vs' : List M) (told : front' ≡ front ++ tells k e e.action vs) (done : vs' ≡ after k w e e.action vs) where
-      pub goes : falls_short k e e.action vs ≡ false → follow front' (serial k w (i + 1) (drop (i + 1) es) vs') ≡ r
-      goes h =
-          ap (λ (x : List M). follow front' (serial k w (i + 1) (drop (i + 1) es) x)) done
-          ∙ ap (λ (n : ℕ). follow front' (serial k w n (drop (i + 1) es) (after k w e e.action vs))) (add-one i)
-          ∙ ap (λ (x : List ℤ). follow x rest) told
-          ∙ sym (before_goes k w i e vs front rest e.action h)
-          ∙ here
-
-      pub stops : falls_short k e e.action vs ≡ true → record { values = vs'; answers = front'; skipped = Some i } ≡ r
-      stops h =
-          (λ j. record { values = done j; answers = told j; skipped = Some i }) ∙ sym (before_stops k w i e vs front rest e.action h) ∙ here
-
-  pub ends : length es ≤ i → record { values = vs; answers = front; skipped = None } ≡ r
-  ends past =
-      ap (λ (x : List ℤ). record { values = vs; answers = x; skipped = None }) (sym (append-nil front))
-      ∙ sym (at_drop_all (λ (x : List Entry). follow front (serial k w i x vs)) es i past)
-      ∙ so_far

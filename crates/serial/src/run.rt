@@ -1,12 +1,13 @@
 // The run of one transaction, entry by entry, directly on the values.
-ghost use Rattle.std.specs.Prelude.{◌≡◌, ◌+◌, ◌<◌, ◌≤◌, not, ◌++◌, map};
+ghost use Rattle.std.specs.Prelude.{◌≡◌, ◌<◌, not, ◌++◌, map};
+ghost use Rattle.arrayvec.specs.ArrayVec.{array_vec_len};
 ghost use Rattle.slips.specs.Listed.{entries_of};
 ghost use Rattle.serial.specs.Alone.{RunsAlone, tells, falls_short};
 ghost use Rattle.serial.specs.Answers.{answers_of};
 ghost use Rattle.serial.specs.Places.{modify};
 ghost use Rattle.serial.specs.Serial.{reads, after, serial};
 
-use crate::readings::Readings;
+use crate::readings::{Answers, Readings};
 use kinds::kind::Kind;
 use kinds::operation::{Argument, Verb};
 use slips::entries::Entries;
@@ -16,14 +17,20 @@ use slips::entry::{Action, Entry};
 pub fn run_alone<K: Kind>(values: &mut [K], worker: u8, entries: &Entries) -> Readings
     ensures { record { values = map K.Kind.meaning values.new; answers = answers_of result; skipped = result.skipped } ≡ serial K.Kind.model worker 0 (entries_of entries.now) (map K.Kind.meaning values.old) }
 {
-    let mut readings = Readings::new();
+    let mut answers = Answers::new();
     let all = entries.as_slice();
     for (i, entry) in all.iter().enumerate() {
-        if !run_entry(values, worker, *entry, &mut readings) {
-            return readings.skipped_at(i);
+        if !run_entry(values, worker, *entry, &mut answers) {
+            return Readings {
+                skipped: Some(i),
+                answers,
+            };
         }
     }
-    readings
+    Readings {
+        skipped: None,
+        answers,
+    }
 }
 
 // What a run alone comes to: the entries before the `need` that skipped did all that they say, and nothing else was done.
@@ -32,17 +39,15 @@ pub fn promise<K: Kind>()
 {}
 
 // Runs one entry, and says whether the next one is to be run.
-fn run_entry<K: Kind>(values: &mut [K], worker: u8, entry: Entry, readings: &mut Readings) -> bool
-    requires { readings.old.len < 16 }
+fn run_entry<K: Kind>(values: &mut [K], worker: u8, entry: Entry, answers: &mut Answers) -> bool
+    requires { array_vec_len answers.old < 16 }
     ensures values { map K.Kind.meaning values.new ≡ after K.Kind.model worker entry entry.action (map K.Kind.meaning values.old) }
-    ensures answers { answers_of readings.new ≡ answers_of readings.old ++ tells K.Kind.model entry entry.action (map K.Kind.meaning values.old) }
-    ensures len { readings.new.len ≤ readings.old.len + 1 }
-    ensures skipped { readings.new.skipped ≡ readings.old.skipped }
+    ensures answers { answers.new.items ≡ answers.old.items ++ tells K.Kind.model entry entry.action (map K.Kind.meaning values.old) }
     ensures goes_on { not result ≡ falls_short K.Kind.model entry entry.action (map K.Kind.meaning values.old) }
 {
     match entry.action {
         Action::Show { number } => {
-            readings.push(read(values, entry, number));
+            answers.push(read(values, entry, number));
             true
         }
         Action::Need { number, bound } => read(values, entry, number) >= bound,
@@ -62,17 +67,17 @@ fn run_entry<K: Kind>(values: &mut [K], worker: u8, entry: Entry, readings: &mut
 fn read<K: Kind>(values: &[K], entry: Entry, number: u8) -> i64
     ensures { result ≡ reads K.Kind.model entry number (map K.Kind.meaning values.now) }
 {
-    match values.get(entry.key as usize) {
-        Some(value) => value.shown(entry.part, number),
-        None => 0,
-    }
+    values
+        .get(usize::from(entry.key))
+        .map_or(0, |value| value.shown(entry.part, number))
 }
 
 // Applies an entry's operation, which does nothing at a key outside the values.
 fn change<K: Kind>(values: &mut [K], entry: Entry, verb: Verb, argument: Argument)
     ensures { map K.Kind.meaning values.new ≡ modify entry.key ((K.Kind.model.rule entry.part verb).apply argument) (map K.Kind.meaning values.old) }
 {
-    let key = entry.key as usize;
+    // By an index: of a slice that `get_mut` has lent from, the prover knows no element afterwards.
+    let key = usize::from(entry.key);
     if key < values.len() {
         values[key].apply(entry.part, verb, argument);
     }

@@ -1,4 +1,7 @@
 // What a transaction says, entry by entry.
+ghost use Rattle.std.specs.Prelude.{◌≡◌};
+ghost use Rattle.slips.specs.Listed.{blank};
+
 use kinds::operation::Verb;
 
 // What an entry does with its part of a record: shows a number of it, needs that number to be at least a bound, or changes it.
@@ -16,4 +19,17 @@ pub struct Entry {
     pub key: u16,
     pub part: u8,
     pub action: Action,
+}
+
+// What stands behind the entries that a transaction has.
+impl Default for Entry {
+    ghost is_default = { λ entry. entry ≡ blank };
+
+    fn default() -> Self {
+        Entry {
+            key: 0,
+            part: 0,
+            action: Action::Show { number: 0 },
+        }
+    }
 }

@@ -1,6 +1,6 @@
 // Reads one entry of a text.
-ghost use Rattle.std.specs.Prelude.{◌≡◌, ◌<◌, length, MatchResult};
-ghost use Rattle.words.specs.Numbers.{Integer, Keyed};
+ghost use Rattle.std.specs.Prelude.{◌≡◌, ℕ, ◌<◌, List, length, MatchResult};
+ghost use Rattle.words.specs.Numbers.{Integer, Keyed, Spelt};
 ghost use Rattle.slips.specs.Canon.{marked};
 ghost use Rattle.slips.specs.Forms.{Heading, Shown, Mark, ReadWord, Acts, Misses, EntryAt, WrongAt};
 
@@ -17,15 +17,24 @@ pub enum Head {
     Change(Verb),
 }
 
+// A kind of value that a word of an entry spells.
+trait Spelled: Sized {
+    ghost spelling: { Self → List ℕ → Type 0 };
+
+    // What the bytes spell, if they spell a value.
+    fn from_bytes(bytes: &[u8]) -> Option<Self>
+        ensures { Spelt spelling bytes.now result };
+}
+
 // The entry at `at`, with the place behind its ending byte, or the place of its first wrong word.
 pub(crate) fn entry_at(text: &[u8], at: usize) -> Result<(Entry, usize), usize>
     requires { at < length text.now }
     ensures { MatchResult result (λ p. EntryAt text.now at p.0 p.1) (λ b. WrongAt text.now at b) }
 {
     let first = word_at(text, at);
-    let head = head_word(&first)?;
+    let head = read_word(&first)?;
     let second = first.next(text);
-    let (key, part) = key_word(&second)?;
+    let (key, part) = read_word(&second)?;
     let third = second.next(text);
     let fourth = third.next(text);
     let (action, last) = action(head, third, fourth)?;
@@ -39,18 +48,18 @@ fn action<'a>(head: Head, first: Word<'a>, second: Word<'a>) -> Result<(Action, 
 {
     match head {
         Head::Show => {
-            let number = shown_word(&first)?;
+            let number = read_word(&first)?;
             Ok((Action::Show { number }, first))
         }
         Head::Need => {
-            let number = shown_word(&first)?;
-            let bound = number_word(&second)?;
+            let number = read_word(&first)?;
+            let bound = read_word(&second)?;
             Ok((Action::Need { number, bound }, second))
         }
         Head::Change(verb) => {
-            let number = number_word(&first)?;
+            let number = read_word(&first)?;
             if takes_mark(verb) {
-                let mark = mark_word(&second)?;
+                let mark = read_word(&second)?;
                 Ok((Action::Change { verb, number, mark }, second))
             } else {
                 let mark = 0;
@@ -70,53 +79,64 @@ fn takes_mark(verb: Verb) -> bool
     }
 }
 
-// What the first word of an entry asks for, or the word's place where it asks for nothing.
-fn head_word(word: &Word) -> Result<Head, usize>
-    ensures { ReadWord Heading word.now result }
+// What a word spells, or the word's place where it spells nothing of the kind.
+fn read_word<T: Spelled>(word: &Word) -> Result<T, usize>
+    ensures { ReadWord T.spelling word.now result }
 {
-    match word.bytes {
-        b"show" => Ok(Head::Show),
-        b"need" => Ok(Head::Need),
-        b"put" => Ok(Head::Change(Verb::Put)),
-        b"add" => Ok(Head::Change(Verb::Add)),
-        b"max" => Ok(Head::Change(Verb::Max)),
-        b"min" => Ok(Head::Change(Verb::Min)),
-        b"last" => Ok(Head::Change(Verb::Last)),
-        b"top" => Ok(Head::Change(Verb::Top)),
-        _ => Err(word.at),
+    T::from_bytes(word.bytes).ok_or(word.at)
+}
+
+// What an entry's first word asks for.
+impl Spelled for Head {
+    ghost spelling = { Heading };
+
+    fn from_bytes(bytes: &[u8]) -> Option<Head> {
+        match bytes {
+            b"show" => Some(Head::Show),
+            b"need" => Some(Head::Need),
+            b"put" => Some(Head::Change(Verb::Put)),
+            b"add" => Some(Head::Change(Verb::Add)),
+            b"max" => Some(Head::Change(Verb::Max)),
+            b"min" => Some(Head::Change(Verb::Min)),
+            b"last" => Some(Head::Change(Verb::Last)),
+            b"top" => Some(Head::Change(Verb::Top)),
+            _ => None,
+        }
     }
 }
 
-// The key and the part that a word spells, or its place.
-fn key_word(word: &Word) -> Result<(u16, u8), usize>
-    ensures { ReadWord Keyed word.now result }
-{
-    numbers::key(word.bytes).ok_or(word.at)
-}
+// A key and the part of its record.
+impl Spelled for (u16, u8) {
+    ghost spelling = { Keyed };
 
-// The number of a shown number that a word spells, or its place.
-fn shown_word(word: &Word) -> Result<u8, usize>
-    ensures { ReadWord Shown word.now result }
-{
-    match numbers::unsigned(word.bytes, 99) {
-        Some(n) => Ok(n as u8),
-        None => Err(word.at),
+    fn from_bytes(bytes: &[u8]) -> Option<(u16, u8)> {
+        numbers::key(bytes)
     }
 }
 
-// The signed number that a word spells, or its place.
-fn number_word(word: &Word) -> Result<i64, usize>
-    ensures { ReadWord Integer word.now result }
-{
-    numbers::integer(word.bytes).ok_or(word.at)
+// The number of a shown number.
+impl Spelled for u8 {
+    ghost spelling = { Shown };
+
+    fn from_bytes(bytes: &[u8]) -> Option<u8> {
+        numbers::unsigned(bytes, 99).and_then(|n| u8::try_from(n).ok())
+    }
 }
 
-// The mark that a word spells, or its place.
-fn mark_word(word: &Word) -> Result<u32, usize>
-    ensures { ReadWord Mark word.now result }
-{
-    match numbers::unsigned(word.bytes, u64::from(u32::MAX)) {
-        Some(n) => Ok(n as u32),
-        None => Err(word.at),
+// A signed number: a change's, or a bound.
+impl Spelled for i64 {
+    ghost spelling = { Integer };
+
+    fn from_bytes(bytes: &[u8]) -> Option<i64> {
+        numbers::integer(bytes)
+    }
+}
+
+// A mark.
+impl Spelled for u32 {
+    ghost spelling = { Mark };
+
+    fn from_bytes(bytes: &[u8]) -> Option<u32> {
+        numbers::unsigned(bytes, u64::from(u32::MAX)).and_then(|n| u32::try_from(n).ok())
     }
 }

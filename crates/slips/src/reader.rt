@@ -15,11 +15,12 @@ pub fn read(text: &[u8]) -> Result<Entries, Fault>
     ensures reads { ReadAs text.now (told result) }
     ensures only { (q : Result (List Entry) (List ℕ)) → ReadAs text.now q → q ≡ told result }
 {
-    if text.len() == 0 || text.len() > LONGEST || count_endings(text) > MOST {
+    if text.is_empty() || text.len() > LONGEST || count_endings(text) > MOST {
         return Err(Fault::Size);
     }
     let mut entries = Entries::new();
     let mut at = 0;
+    // A loop over places: where an entry ends says where the next one begins.
     while at < text.len() {
         match entry_at(text, at) {
             Ok((entry, next)) => {
@@ -39,11 +40,5 @@ pub fn read(text: &[u8]) -> Result<Entries, Fault>
 fn count_endings(text: &[u8]) -> usize
     ensures { result ≡ endings text.now }
 {
-    let mut n = 0;
-    for b in text {
-        if *b == b'\n' {
-            n += 1;
-        }
-    }
-    n
+    text.iter().filter(|byte| **byte == b'\n').count()
 }

@@ -66,16 +66,9 @@ fn limits(rt: &HostRuntime) -> io::Result<()> {
     say(rt, "")?;
     say(rt, "\n\n\n\n\n\n\n\n\n\n\n\n\n\n\n\n")?;
     say(rt, "\n\n\n\n\n\n\n\n\n\n\n\n\n\n\n\n\n")?;
-    let mut most = [0; 704];
-    for i in 0..704 {
-        most[i] = LONG[i % 44];
-    }
-    count(rt, &most)?;
-    let mut unended = [0; 169];
-    for i in 0..169 {
-        unended[i] = SHORT[i % 10];
-    }
-    count(rt, &unended)?;
+    count(rt, [LONG; 16].as_flattened())?;
+    let ended = [SHORT; 17];
+    count(rt, &ended.as_flattened()[..169])?;
     count(rt, &[b'x'; 1024])?;
     count(rt, &[b'x'; 1025])
 }

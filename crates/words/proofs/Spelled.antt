@@ -1,17 +1,19 @@
 -- What the canonical spelling of a number is like.
-use Rattle.std.proofs.Common.{◌≡◌, ℕ, zero, suc, ◌+◌, ◌-◌, ◌*◌, ◌^◌, ◌<◌, ◌≤◌, true, ltb, List, [], ◌∷◌, ◌++◌, length, get_or, take, drop, ℤ, pos, negsuc, Some, None, decimal, sym, refl, ap, ◌∙◌, subst, ⊎_elim, arith, w64, SFits}
+use Rattle.std.proofs.Common.{◌≡◌, ℕ, zero, suc, ◌+◌, ◌-◌, ◌*◌, ◌^◌, ◌<◌, ◌≤◌, true, ltb, ◌⊎◌, List, [], ◌∷◌, ◌++◌, length, get_or, take, drop, ℤ, pos, negsuc, Some, None, Option, decimal, sym, refl, ap, ◌∙◌, subst, inl, inr, ⊎_elim, arith, w64, SFits}
 use Rattle.std.specs.Str.Parse.{AllDigits, digits_value, digits_value_after}
 use Rattle.std.specs.Int.{IsInRange}
 use Rattle.std.specs.Char.{digit_value}
 use Rattle.std.specs.Str.{all_ascii_digits}
 use Rattle.std.specs.Fmt.{signed_decimal}
 use Rattle.std.specs.List.{between}
+use Rattle.std.specs.Option.{MatchOption}
 use Rattle.std.proofs.lemmas.Slice.{first_rest}
 use Rattle.std.proofs.lemmas.Str.Parse.{IsNumeralModel, numerals_by_value, tells_digits, tells_all_ascii_digits, digit_at}
-use Rattle.std.proofs.lemmas.Fmt.{decimal_nonempty, decimal_digit, first_decimal, digits_decimal, digits_value-decimal}
+use Rattle.std.proofs.lemmas.Fmt.{decimal_nonempty, decimal_digit, first_decimal, digits_decimal, digits_value-decimal, decimal-digits_value}
 use Rattle.std.proofs.lemmas.Bool.{cases_lt, ltb-true, lt-ltb, and_from, and_parts, cases_Bool, cond-true, cond-false}
+use Rattle.std.proofs.lemmas.Option.{cond_some, none-some, same_Some}
 use Rattle.std.proofs.lemmas.List.{length-append, get_or_at, get_or-append_right, take_at, take-append-drop, drop_more, drop_all}
-use Rattle.words.specs.Numbers.{keyed, IsKey, is_numeral, numeral}
+use Rattle.words.specs.Numbers.{keyed, IsKey, Decimal, Spelt, is_numeral, numeral}
 
 pub own : IsNumeralModel (AllDigits 10) (digits_value 10)
 own = numerals_by_value (AllDigits 10) tells_digits
@@ -55,19 +57,32 @@ module _ (n : ℕ) (bs : List ℕ) (small : n < 2 ^ 64) (e : bs ≡ decimal n) w
   pub digit : (i : ℕ) → i < length bs → IsInRange 48 57 (get_or bs i 0)
   digit i l = digit_at bs i (subst (AllDigits 10) (sym e) (digits_decimal own n small)) l
 
-  pub front : (i : ℕ) → digits_value 10 (take i bs) ≤ n
-  front i = omega (arith, front_value i 0 bs, ap (digits_value 10) e, digits_value-decimal own n small)
+  pub spells : numeral bs ≡ Some n
+  spells =
+      let v : digits_value 10 bs ≡ n = ap (digits_value 10) e ∙ digits_value-decimal own n small in
+      spelt bs some (subst (AllDigits 10) (sym e) (digits_decimal own n small)) (omega arith) ∙ ap Some v
+
+-- a numeral that begins with no needless zero is its number's spelling
+pub spelling : (bs : List ℕ) (n : ℕ) → numeral bs ≡ Some n → (get_or bs 0 0 ≡ 48 → length bs ≤ 1) → bs ≡ decimal n
+spelling bs n e one =
+    let q = cond_some (is_numeral bs) (digits_value 10 bs) n e in
+    let p = and_parts (ltb 0 (length bs)) _ q.0 in
+    let d = and_parts (all_ascii_digits bs) (ltb (digits_value 10 bs) (2 ^ 64)) p.1 in
+    let some = ltb-true 0 (length bs) p.0 in
+    sym (decimal-digits_value own bs (ascii.to bs d.0) some (λ z. omega (arith, one z)) (ltb-true (digits_value 10 bs) (2 ^ 64) d.1)) ∙ ap decimal q.1
+
+-- a numeral that begins with no needless zero, where it is within a bound
+module _ (most : ℕ) (bs : List ℕ) (small : most < 2 ^ 64) (one : get_or bs 0 0 ≡ 48 → length bs ≤ 1) where
+  pub bounded : (o r : Option ℕ) → o ≡ numeral bs → MatchOption o (r ≡ None) (λ x. (r ≡ Some x × x ≤ most) ⊎ (r ≡ None × most < x)) → Spelt (Decimal most) bs r
+  bounded None r e m = subst (Spelt (Decimal most) bs) (sym m) (λ n h. none-some n (e ∙ spells n bs (omega arith) h.1))
+  bounded (Some x) r e (inl m) = subst (Spelt (Decimal most) bs) (sym m.0) (m.1, spelling bs x (sym e) one)
+  bounded (Some x) r e (inr m) = subst (Spelt (Decimal most) bs) (sym m.0) (λ n h. let q = same_Some x n (e ∙ spells n bs (omega arith) h.1) in omega arith)
 
 -- a text that begins with a minus
 module _ (bs : List ℕ) (more : 0 < length bs) (minus : get_or bs 0 0 ≡ 45) where
   pub negative : (z : ℤ) → SFits w64 z → bs ≡ signed_decimal z → (n : ℕ) × (0 < n) × (n ≤ 2 ^ 63) × (between 1 (length bs) bs ≡ decimal n)
   negative (pos n) f e = absurd (omega (arith, digit n bs (omega (arith, f.sfits)) e 0 more))
   negative (negsuc n) f e = (suc n, omega arith, omega (arith, f.sfits), ap (drop 1) (sym (first_rest bs 0 more) ∙ e))
-
-  pub spells_negative : (n : ℕ) → 0 < n → between 1 (length bs) bs ≡ decimal n → bs ≡ signed_decimal (negsuc (n - 1))
-  spells_negative n some e =
-      let up : n ≡ suc (n - 1) = omega arith in
-      first_rest bs 0 more ∙ (λ i. minus i ∷ (e ∙ ap decimal up) i)
 
 -- a key: its digits, a point and one digit more
 module _ (bs : List ℕ) (t p : ℕ) (k : IsKey t p) (e : bs ≡ keyed t p) where

@@ -11,7 +11,7 @@ pub fn digits(bytes: &[u8]) -> Option<u64>
     }
     let mut n: u64 = 0;
     for b in bytes {
-        if *b < b'0' || *b > b'9' {
+        if !b.is_ascii_digit() {
             return None;
         }
         n = n.checked_mul(10)?.checked_add(u64::from(*b - b'0'))?;
@@ -23,24 +23,10 @@ pub fn digits(bytes: &[u8]) -> Option<u64>
 pub fn unsigned(bytes: &[u8], most: u64) -> Option<u64>
     ensures { Spelt (Decimal most) bytes.now result }
 {
-    if bytes.len() == 0 {
-        return None;
+    match bytes {
+        [b'0', _, ..] => None,
+        _ => digits(bytes).filter(|n| *n <= most),
     }
-    if bytes[0] == b'0' && bytes.len() > 1 {
-        return None;
-    }
-    let mut n: u64 = 0;
-    for b in bytes {
-        if *b < b'0' || *b > b'9' {
-            return None;
-        }
-        let digit = u64::from(*b - b'0');
-        if digit > most || n > (most - digit) / 10 {
-            return None;
-        }
-        n = n * 10 + digit;
-    }
-    Some(n)
 }
 
 // The signed number that the bytes spell, if they spell one of 64 bits.
@@ -48,14 +34,11 @@ pub fn integer(bytes: &[u8]) -> Option<i64>
     ensures { Spelt Integer bytes.now result }
 {
     match bytes {
-        [b'-', digits @ ..] => match unsigned(digits, 1 << 63) {
-            Some(n) if n > 0 => Some(-1 - (n - 1) as i64),
+        [b'-', size @ ..] => match unsigned(size, i64::MIN.unsigned_abs()) {
+            Some(n) if n > 0 => 0_i64.checked_sub_unsigned(n),
             _ => None,
         },
-        _ => match unsigned(bytes, i64::MAX as u64) {
-            Some(n) => Some(n as i64),
-            None => None,
-        },
+        _ => unsigned(bytes, i64::MAX.unsigned_abs()).and_then(|n| i64::try_from(n).ok()),
     }
 }
 
@@ -66,9 +49,9 @@ pub fn key(bytes: &[u8]) -> Option<(u16, u8)>
     let [digits @ .., b'.', part] = bytes else {
         return None;
     };
-    if *part < b'0' || *part > b'9' {
+    if !part.is_ascii_digit() {
         return None;
     }
-    let key = unsigned(digits, 9999)?;
-    Some((key as u16, *part - b'0'))
+    let key = u16::try_from(unsigned(digits, 9999)?).ok()?;
+    Some((key, *part - b'0'))
 }

@@ -1,6 +1,6 @@
 // The words of a text, each with its place.
-ghost use Rattle.std.specs.Prelude.{◌≡◌, min, length};
-ghost use Rattle.words.specs.Words.{WordAt, Behind, Ending, stop};
+ghost use Rattle.std.specs.Prelude.{◌≡◌, ◌≤◌, min, length, take, drop};
+ghost use Rattle.words.specs.Words.{WordAt, Behind, Ending, stop, Plain, Stops};
 
 // Bytes of a text, and the place where they begin.
 #[derive(Clone, Copy)]
@@ -14,10 +14,7 @@ pub fn word_at<'a>(text: &'a [u8], at: usize) -> Word<'a>
     ensures { WordAt text.now (min at (length text.now)) result }
 {
     let start = at.min(text.len());
-    let mut end = start;
-    while end < text.len() && text[end] != b' ' && text[end] != b'\n' {
-        end += 1;
-    }
+    let end = start + plain_bytes(&text[start..]);
     Word {
         bytes: &text[start..end],
         at: start,
@@ -57,4 +54,15 @@ impl<'a> Word<'a> {
     {
         self.at.saturating_add(self.bytes.len()).min(text.len())
     }
+}
+
+// How many bytes stand before the first space or ending byte, or all where there is none.
+fn plain_bytes(text: &[u8]) -> usize
+    ensures within { result ≤ length text.now }
+    ensures plain { Plain (take result text.now) }
+    ensures stops { Stops (drop result text.now) }
+{
+    text.iter()
+        .position(|byte| *byte == b' ' || *byte == b'\n')
+        .unwrap_or(text.len())
 }

@@ -1,16 +1,9 @@
--- At each way out of `integer`: the number behind the minus, or why there is none.
-use Rattle.std.proofs.Common.{◌≡◌, ◌-◌, negsuc, ◌-ℤ◌, sym, ap, ◌∙◌, arith, w64, to_z, of_z, rules}
-use Rattle.std.specs.Fmt.{signed_decimal}
+-- Where no number stands behind the minus, or only a zero.
+use Rattle.std.proofs.Common.{◌≤◌, sym, ◌∙◌, arith, rules}
 use Rattle.std.proofs.lemmas.Fmt.{decimal_injective}
 use Rattle.std.proofs.lemmas.Int.{ints}
-use Rattle.words.proofs.Spelled.{negative, spells_negative}
+use Rattle.words.proofs.Spelled.{negative}
 use Rattle.words.proofs.numbers.integer.Goals as goal
-
-pub returns-in-Some : goal.returns-in-Some
-returns-in-Some c =
-    let n = c.in-Some.n in
-    let is : negsuc (n - 1) ≡ to_z w64 (of_z w64 (negsuc 0 -ℤ to_z w64 (n - 1))) = omega (arith, ints, c.in-Some.ensures) in
-    (search rules, spells_negative c.args.bytes.now (search rules) (search rules) n (omega arith) c.in-Some.ensures.1 ∙ ap signed_decimal is)
 
 pub returns-in_default-unsigned : goal.returns-in_default-unsigned
 returns-in_default-unsigned c = λ z h.
@@ -20,4 +13,5 @@ returns-in_default-unsigned c = λ z h.
 pub returns-in_default-unsigned-2 : goal.returns-in_default-unsigned-2
 returns-in_default-unsigned-2 c = λ z h.
     let m = negative c.args.bytes.now (search rules) (search rules) z h.0 h.1 in
-    c.in_default-unsigned.ensures m.0 (m.2, m.3)
+    let most : m.0 ≤ c.unsigned_abs.result = omega (arith, ints, m.2) in
+    c.in_default-unsigned.ensures m.0 (most, m.3)
