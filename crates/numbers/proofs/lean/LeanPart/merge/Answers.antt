@@ -2,7 +2,7 @@
 use Rattle.std.proofs.Common.{rules}
 use Rattle.std.proofs.lemmas.Int.{wraps}
 use Rattle.numbers.specs.Leans.{long_is}
-use Rattle.numbers.proofs.lean.LeanKind.apply.Goals as goal
+use Rattle.numbers.proofs.lean.LeanPart.merge.Goals as goal
 
 pub returns : goal.returns
 returns c = long_is (search (rules, wraps))
