@@ -26,6 +26,7 @@ impl Count {
 }
 
 // `put`, `add` and `max` are taken with numbers from 0; `add` and `max` split.
+#[tactic(auto, using(crate::specs::Counts::amount_is))]
 impl Part for Count {
     ghost Meaning = { Amount };
 

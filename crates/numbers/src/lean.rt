@@ -24,6 +24,7 @@ impl Lean {
 }
 
 // `put`, `add`, which wraps, `max` and `min` are taken with any number; all but `put` split.
+#[tactic(auto, using(crate::specs::Leans::long_is, std::proofs::lemmas::Int::wraps))]
 impl Part for Lean {
     ghost Meaning = { Long };
 

@@ -4,12 +4,12 @@ ghost use Rattle.triples.specs.Triples.{by_order, zero};
 ghost use Rattle.triples.specs.declared.triple.Triple.{Triple as Item};
 ghost use Rattle.triples.specs.Best.{Holds};
 ghost use Rattle.triples.specs.Falling.{falling};
-ghost use Rattle.triples.specs.Tens.{Tops, tops, topped, ten_model};
-ghost use Rattle.triples.specs.TenLaws.{ten_laws};
+ghost use Rattle.triples.specs.Tens.{Tops, tops, topped, rules as ten_rules, show as ten_show};
+ghost use Rattle.triples.specs.TenLaws.{lawful as ten_lawful};
 
 use crate::triple::Triple;
-use kinds::kind::Kind;
 use kinds::operation::{Argument, Verb};
+use kinds::part::Part;
 use std::cmp::Ordering;
 
 // The first `len` of `triples` count: their orders fall, so no two are the same.
@@ -77,53 +77,56 @@ impl Ten {
 }
 
 // `top` is taken with any argument, and splits.
-impl Kind for Ten {
+#[tactic(auto, using(crate::specs::Tens::tops_is, crate::specs::TenFolds::folded_triples))]
+impl Part for Ten {
     ghost Meaning = { Tops };
 
     ghost meaning = { λ x. tops x.len x.triples x.few x.falls };
 
-    ghost model = { ten_model };
+    ghost rules = { ten_rules };
 
-    ghost laws = { ten_laws };
+    ghost NUMBERS = { 31 };
 
-    fn takes(part: u8, verb: Verb, _argument: Argument) -> bool {
-        Ten::splits(part, verb)
+    ghost show = { ten_show };
+
+    ghost lawful = { ten_lawful };
+
+    const NUMBERS: u8 = 31;
+
+    fn takes(verb: Verb, _argument: Argument) -> bool {
+        Ten::splits(verb)
     }
 
-    fn splits(part: u8, verb: Verb) -> bool {
-        part == 0 && matches!(verb, Verb::Top)
+    fn splits(verb: Verb) -> bool {
+        verb == Verb::Top
     }
 
-    fn shows(part: u8, number: u8) -> bool {
-        part == 0 && number < 31
-    }
-
-    fn shown(&self, _part: u8, number: u8) -> i64 {
+    fn shown(&self, number: u8) -> i64 {
         if number == 0 {
             return self.len as i64;
         }
-        let triple = self.at((number as usize - 1) / 3);
+        let triple = self.at((usize::from(number) - 1) / 3);
         match (number - 1) % 3 {
             0 => triple.order,
-            1 => triple.worker as i64,
-            _ => triple.mark as i64,
+            1 => i64::from(triple.worker),
+            _ => i64::from(triple.mark),
         }
     }
 
-    fn apply(&mut self, _part: u8, verb: Verb, argument: Argument) {
-        if matches!(verb, Verb::Top) {
-            *self = self.with(Triple::of(argument));
+    fn apply(&mut self, verb: Verb, argument: Argument) {
+        if verb == Verb::Top {
+            *self = self.with(Triple::from(argument));
         }
     }
 
-    fn freshen(&mut self, _part: u8, verb: Verb) {
-        if matches!(verb, Verb::Top) {
+    fn freshen(&mut self, verb: Verb) {
+        if verb == Verb::Top {
             *self = Ten::new();
         }
     }
 
-    fn merge(&mut self, _part: u8, verb: Verb, shard: &Ten) {
-        if matches!(verb, Verb::Top) {
+    fn merge(&mut self, verb: Verb, shard: &Ten) {
+        if verb == Verb::Top {
             *self = self.with_all(shard);
         }
     }
