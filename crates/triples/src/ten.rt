@@ -1,8 +1,6 @@
 // The kind of the ten triples of the highest orders.
-ghost use Rattle.std.specs.Prelude.{◌≡◌, ◌≤◌, T, List, [], ◌∷◌, ◌++◌, length, take, fold, slice_index_or};
-ghost use Rattle.triples.specs.Triples.{by_order, zero};
-ghost use Rattle.triples.specs.declared.triple.Triple.{Triple as Item};
-ghost use Rattle.triples.specs.Best.{Holds};
+ghost use Rattle.std.specs.Prelude.{◌≡◌, ◌≤◌, T, length, take};
+ghost use Rattle.triples.specs.Triples.{by_order};
 ghost use Rattle.triples.specs.Falling.{falling};
 ghost use Rattle.triples.specs.Tens.{Tops, tops, topped, rules as ten_rules, show as ten_show};
 ghost use Rattle.triples.specs.TenLaws.{lawful as ten_lawful};
@@ -11,6 +9,7 @@ use crate::triple::Triple;
 use kinds::operation::{Argument, Verb};
 use kinds::part::Part;
 use std::cmp::Ordering;
+use std::mem;
 
 // The first `len` of `triples` count: their orders fall, so no two are the same.
 #[derive(Clone, Copy)]
@@ -30,10 +29,18 @@ const BLANK: Triple = Triple {
 };
 
 impl Ten {
+    ghost use Rattle.std.specs.Prelude.{◌≡◌, List, [], ◌∷◌, ◌++◌, fold, slice_index_or};
+    ghost use Rattle.triples.specs.Triples.{zero};
+    ghost use Rattle.triples.specs.declared.triple.Triple.{Triple as Item};
+    ghost use Rattle.triples.specs.Best.{Holds};
+    ghost use Rattle.triples.specs.Tens.{topped};
+    ghost use Rattle.triples.specs.Held.{held};
+
     // Nothing has come yet.
+    #[tactic(auto, using(crate::proofs::TenHolds::holds_none))]
     pub fn new() -> Ten
-        ensures items { take result.len result.triples ≡ [] }
-        ensures holds { Holds [] (take result.len result.triples) }
+        ensures items { held result ≡ [] }
+        ensures holds { Holds [] (held result) }
     {
         Ten {
             triples: [BLANK; 10],
@@ -44,8 +51,8 @@ impl Ten {
     // These and `new`, of which the ten of the highest orders stay: if these are the ten of all that has been seen,
     // the result has the ten of that and `new`.
     pub fn with(self, new: Triple) -> Ten
-        ensures items { take result.len result.triples ≡ topped (take self.len self.triples) new }
-        ensures holds { (seen : List Item) → Holds seen (take self.len self.triples) → Holds (new ∷ seen) (take result.len result.triples) }
+        ensures items { held result ≡ topped (held self) new }
+        ensures holds { (seen : List Item) → Holds seen (held self) → Holds (new ∷ seen) (held result) }
     {
         let mut triples = self.triples;
         let len = insert(&mut triples, self.len, new);
@@ -53,26 +60,30 @@ impl Ten {
     }
 
     // These and those of `shard`, of which the ten of the highest orders stay: those of all that either has seen.
+    #[tactic(auto, using(std::proofs::lemmas::List::Sums::fold_more))]
     pub fn with_all(self, shard: &Ten) -> Ten
-        ensures items { take result.len result.triples ≡ fold topped (take self.len self.triples) (take shard.now.len shard.now.triples) }
-        ensures holds { (seen aside : List Item) → Holds seen (take self.len self.triples) → Holds aside (take shard.now.len shard.now.triples) → Holds (aside ++ seen) (take result.len result.triples) }
+        ensures items { held result ≡ fold topped (held self) (held shard.now) }
+        ensures holds { (seen aside : List Item) → Holds seen (held self) → Holds aside (held shard.now) → Holds (aside ++ seen) (held result) }
     {
         let mut merged = self;
-        for i in 0..shard.len {
-            merged = merged.with(shard.triples[i]);
+        for triple in shard.held() {
+            merged = merged.with(*triple);
         }
         merged
     }
 
     // The triple at `place`, and zeros past the last.
     fn at(&self, place: usize) -> Triple
-        ensures { result ≡ slice_index_or (take self.now.len self.now.triples) place zero }
+        ensures { result ≡ slice_index_or (held self.now) place zero }
     {
-        if place < self.len {
-            self.triples[place]
-        } else {
-            BLANK
-        }
+        self.held().get(place).copied().unwrap_or(BLANK)
+    }
+
+    // The triples that count.
+    fn held(&self) -> &[Triple]
+        ensures { result.now ≡ held self.now }
+    {
+        &self.triples[..self.len]
     }
 }
 
@@ -141,18 +152,14 @@ fn insert(triples: &mut [Triple; 10], len: usize, new: Triple) -> usize
     ensures placed { take result triples.new ≡ topped (take len triples.old) new }
 {
     let mut carried = new;
-    for i in 0..len {
-        let here = triples[i];
+    for here in triples[..len].iter_mut() {
         match carried.order.cmp(&here.order) {
             Ordering::Less => {}
             Ordering::Equal => {
-                triples[i] = carried.max(here);
+                *here = carried.max(*here);
                 return len;
             }
-            Ordering::Greater => {
-                triples[i] = carried;
-                carried = here;
-            }
+            Ordering::Greater => mem::swap(here, &mut carried),
         }
     }
     if len < 10 {
