@@ -12,6 +12,8 @@ use std::cmp::Ordering;
 use std::mem;
 
 // The first `len` of `triples` count: their orders fall, so no two are the same.
+// A kind's values are copied with no memory and no call that can fail, so an array stands here beside its length: an `ArrayVec` is no `Copy`.
+// It has no `impl Model`: that of a `Copy` type gives its fields back, and the triples that count do not say what stands behind them.
 #[derive(Clone, Copy)]
 pub struct Ten {
     triples: [Triple; 10],
@@ -114,9 +116,10 @@ impl Part for Ten {
 
     fn shown(&self, number: u8) -> i64 {
         if number == 0 {
+            // There is no `From` of a `usize` here; the check proves that the cast loses nothing.
             return self.len as i64;
         }
-        let triple = self.at((usize::from(number) - 1) / 3);
+        let triple = self.at(usize::from((number - 1) / 3));
         match (number - 1) % 3 {
             0 => triple.order,
             1 => i64::from(triple.worker),
@@ -144,7 +147,7 @@ impl Part for Ten {
 }
 
 // Puts `new` into its place among the first `len`; of one order the greater stays, and beyond ten the lowest leaves.
-// Returns how many there are then.
+// Returns how many there are then. It takes a `Ten`'s fields: the orders fall again only once `new` has its place.
 fn insert(triples: &mut [Triple; 10], len: usize, new: Triple) -> usize
     requires few { len ≤ 10 }
     requires falls { T (falling by_order (take len triples.old)) }

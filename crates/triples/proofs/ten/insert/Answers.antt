@@ -1,5 +1,5 @@
 -- A triple passes the carried one, changes places with it, or meets it; at the end the carried one arrives.
-use Rattle.std.proofs.Common.{◌≡◌, ◌+◌, ◌≤◌, ◌<◌, length, get_or, set, take, sym, ap, ◌∙◌, arith, rules, length-take, length-set}
+use Rattle.std.proofs.Common.{◌≡◌, get_or, sym, arith, rules, length-take, length-set}
 use Rattle.triples.specs.Triples.{zero, by_order, better}
 use Rattle.triples.proofs.Placing.{passes, swaps, meets, arrives, kept_whole, kept_longer, kept_full}
 use Rattle.std.proofs.lemmas.List.{set-get_or}
