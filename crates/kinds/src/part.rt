@@ -51,7 +51,7 @@ pub trait Part: Copy {
     ghost lawful: { (verb : TheVerb) → Lawful (rules verb) };
 }
 
-// The one part is part 0: no other is taken, split or shown.
+// The one part is part 0: no other is taken, split or shown. What does not depend on that leaves the part's number alone.
 impl<P: Part> Kind for P {
     ghost Meaning = { P.Part.Meaning };
 

@@ -13,7 +13,7 @@ pub struct Count {
     ghost small: { value < 2 ^ 63 },
 }
 
-// The largest count.
+// The largest count. No `From` leads from an `i64` to a `u64` or back; the check proves of each cast that it loses nothing.
 const MOST: u64 = i64::MAX as u64;
 
 impl Count {
@@ -43,10 +43,7 @@ impl Part for Count {
     const NUMBERS: u8 = 1;
 
     fn takes(verb: Verb, argument: Argument) -> bool {
-        match verb {
-            Verb::Put | Verb::Add | Verb::Max => argument.number >= 0,
-            _ => false,
-        }
+        matches!(verb, Verb::Put | Verb::Add | Verb::Max) && argument.number >= 0
     }
 
     fn splits(verb: Verb) -> bool {
@@ -57,6 +54,7 @@ impl Part for Count {
         self.value as i64
     }
 
+    // `add` and `max` stand here and in `merge`: by way of a `Count` of the argument's number the proof needs a lemma over all verbs.
     fn apply(&mut self, verb: Verb, argument: Argument) {
         let number = u64::try_from(argument.number).unwrap_or(0);
         self.value = match verb {
