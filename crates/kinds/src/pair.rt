@@ -13,6 +13,7 @@ pub struct Pair<A, B> {
 }
 
 // Each operation touches its own part only, so the laws follow from those of the two.
+// Each function picks one of the two by itself, since their types differ: no value stands for both.
 impl<A: Kind, B: Kind> Kind for Pair<A, B> {
     ghost Meaning = { A.Kind.Meaning × B.Kind.Meaning };
 

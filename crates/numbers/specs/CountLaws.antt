@@ -20,7 +20,7 @@ larger_join = record {
   assoc = λ x y z. amount_is (omega arith);
 }
 
-lawful : (v : Verb) → Lawful (rules v)
+pub lawful : (v : Verb) → Lawful (rules v)
 lawful Put = puts_lawful from_zero of
 lawful Add = joins_lawful from_zero of plus_join
 lawful Max = joins_lawful from_zero of larger_join

@@ -64,5 +64,8 @@ rules Last = refused
 rules Top = refused
 
 -- the count is shown as number 0
+abbrev pub show : ℕ → Amount → ℤ
+show _ x = pos x.value
+
 abbrev pub count_model : Model Amount
-count_model = single rules 1 (λ _ x. pos x.value)
+count_model = single rules 1 show

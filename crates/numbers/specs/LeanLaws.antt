@@ -31,7 +31,7 @@ smaller_join = record {
   assoc = λ x y z. long_is (omega (arith, ints, clamps));
 }
 
-lawful : (v : Verb) → Lawful (rules v)
+pub lawful : (v : Verb) → Lawful (rules v)
 lawful Put = puts_lawful any of
 lawful Add = joins_lawful any of plus_join
 lawful Max = joins_lawful any of larger_join

@@ -1,5 +1,5 @@
 -- The kind of leans: signed numbers of 64 bits.
-use Rattle.std.specs.Prelude.{◌≡◌, ◌-◌, ◌^◌, ◌<◌, Bool, true, false, cond, ℤ, pos, negsuc, ◌+ℤ◌, int_lt}
+use Rattle.std.specs.Prelude.{◌≡◌, ℕ, ◌-◌, ◌^◌, ◌<◌, Bool, true, false, cond, ℤ, pos, negsuc, ◌+ℤ◌, int_lt}
 use mathlib.Core.HLevel.{is_prop→PathP}
 use Rattle.std.proofs.Math.Bridge.{le_prop}
 use Rattle.std.proofs.Common.{lit<}
@@ -70,5 +70,8 @@ rules Last = refused
 rules Top = refused
 
 -- the number is shown as number 0
+abbrev pub show : ℕ → Long → ℤ
+show _ x = x.value
+
 abbrev pub lean_model : Model Long
-lean_model = single rules 1 (λ _ x. x.value)
+lean_model = single rules 1 show

@@ -1,10 +1,10 @@
 // The kind of counts.
 ghost use Rattle.std.specs.Prelude.{◌≡◌, ◌^◌, ◌<◌};
-ghost use Rattle.numbers.specs.Counts.{Amount, count_model};
-ghost use Rattle.numbers.specs.CountLaws.{count_laws};
+ghost use Rattle.numbers.specs.Counts.{Amount, rules as count_rules, show as count_show};
+ghost use Rattle.numbers.specs.CountLaws.{lawful as count_lawful};
 
-use kinds::kind::Kind;
 use kinds::operation::{Argument, Verb};
+use kinds::part::Part;
 
 // A number from 0 that stops at the largest `i64`.
 #[derive(Clone, Copy)]
@@ -13,7 +13,7 @@ pub struct Count {
     ghost small: { value < 2 ^ 63 },
 }
 
-// The largest count.
+// The largest count. No `From` leads from an `i64` to a `u64` or back; the check proves of each cast that it loses nothing.
 const MOST: u64 = i64::MAX as u64;
 
 impl Count {
@@ -26,37 +26,37 @@ impl Count {
 }
 
 // `put`, `add` and `max` are taken with numbers from 0; `add` and `max` split.
-impl Kind for Count {
+#[tactic(auto, using(crate::specs::Counts::amount_is))]
+impl Part for Count {
     ghost Meaning = { Amount };
 
     ghost meaning = { λ c. record { value = c.value; small = c.small } };
 
-    ghost model = { count_model };
+    ghost rules = { count_rules };
 
-    ghost laws = { count_laws };
+    ghost NUMBERS = { 1 };
 
-    fn takes(part: u8, verb: Verb, argument: Argument) -> bool {
-        part == 0
-            && match verb {
-                Verb::Put | Verb::Add | Verb::Max => argument.number >= 0,
-                _ => false,
-            }
+    ghost show = { count_show };
+
+    ghost lawful = { count_lawful };
+
+    const NUMBERS: u8 = 1;
+
+    fn takes(verb: Verb, argument: Argument) -> bool {
+        matches!(verb, Verb::Put | Verb::Add | Verb::Max) && argument.number >= 0
     }
 
-    fn splits(part: u8, verb: Verb) -> bool {
-        part == 0 && matches!(verb, Verb::Add | Verb::Max)
+    fn splits(verb: Verb) -> bool {
+        matches!(verb, Verb::Add | Verb::Max)
     }
 
-    fn shows(part: u8, number: u8) -> bool {
-        part == 0 && number == 0
-    }
-
-    fn shown(&self, _part: u8, _number: u8) -> i64 {
+    fn shown(&self, _number: u8) -> i64 {
         self.value as i64
     }
 
-    fn apply(&mut self, _part: u8, verb: Verb, argument: Argument) {
-        let number = argument.number.max(0) as u64;
+    // `add` and `max` stand here and in `merge`: by way of a `Count` of the argument's number the proof needs a lemma over all verbs.
+    fn apply(&mut self, verb: Verb, argument: Argument) {
+        let number = u64::try_from(argument.number).unwrap_or(0);
         self.value = match verb {
             Verb::Put => number,
             Verb::Add => (self.value + number).min(MOST),
@@ -65,14 +65,14 @@ impl Kind for Count {
         };
     }
 
-    fn freshen(&mut self, _part: u8, verb: Verb) {
+    fn freshen(&mut self, verb: Verb) {
         self.value = match verb {
             Verb::Add | Verb::Max => 0,
             _ => self.value,
         };
     }
 
-    fn merge(&mut self, _part: u8, verb: Verb, shard: &Count) {
+    fn merge(&mut self, verb: Verb, shard: &Count) {
         self.value = match verb {
             Verb::Add => (self.value + shard.value).min(MOST),
             Verb::Max => self.value.max(shard.value),

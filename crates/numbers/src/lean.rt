@@ -1,11 +1,11 @@
 // The kind of leans.
 ghost use Rattle.std.specs.Prelude.{◌≡◌, ◌^◌, ◌<◌, pos};
 ghost use Rattle.std.specs.Int.Signed.{mag};
-ghost use Rattle.numbers.specs.Leans.{Long, lean_model};
-ghost use Rattle.numbers.specs.LeanLaws.{lean_laws};
+ghost use Rattle.numbers.specs.Leans.{Long, rules as lean_rules, show as lean_show};
+ghost use Rattle.numbers.specs.LeanLaws.{lawful as lean_lawful};
 
-use kinds::kind::Kind;
 use kinds::operation::{Argument, Verb};
+use kinds::part::Part;
 
 // A signed number of 64 bits, to either side of upright.
 #[derive(Clone, Copy)]
@@ -24,32 +24,36 @@ impl Lean {
 }
 
 // `put`, `add`, which wraps, `max` and `min` are taken with any number; all but `put` split.
-impl Kind for Lean {
+#[tactic(auto, using(crate::specs::Leans::long_is, std::proofs::lemmas::Int::wraps))]
+impl Part for Lean {
     ghost Meaning = { Long };
 
     ghost meaning = { λ x. record { value = x.value; fits = x.fits } };
 
-    ghost model = { lean_model };
+    ghost rules = { lean_rules };
 
-    ghost laws = { lean_laws };
+    ghost NUMBERS = { 1 };
 
-    fn takes(part: u8, verb: Verb, _argument: Argument) -> bool {
-        part == 0 && matches!(verb, Verb::Put | Verb::Add | Verb::Max | Verb::Min)
+    ghost show = { lean_show };
+
+    ghost lawful = { lean_lawful };
+
+    const NUMBERS: u8 = 1;
+
+    fn takes(verb: Verb, _argument: Argument) -> bool {
+        matches!(verb, Verb::Put | Verb::Add | Verb::Max | Verb::Min)
     }
 
-    fn splits(part: u8, verb: Verb) -> bool {
-        part == 0 && matches!(verb, Verb::Add | Verb::Max | Verb::Min)
+    fn splits(verb: Verb) -> bool {
+        matches!(verb, Verb::Add | Verb::Max | Verb::Min)
     }
 
-    fn shows(part: u8, number: u8) -> bool {
-        part == 0 && number == 0
-    }
-
-    fn shown(&self, _part: u8, _number: u8) -> i64 {
+    fn shown(&self, _number: u8) -> i64 {
         self.value
     }
 
-    fn apply(&mut self, _part: u8, verb: Verb, argument: Argument) {
+    // All but `put` stand here and in `merge`: by way of a `Lean` of the argument's number the proof needs a lemma over all verbs.
+    fn apply(&mut self, verb: Verb, argument: Argument) {
         self.value = match verb {
             Verb::Put => argument.number,
             Verb::Add => self.value.wrapping_add(argument.number),
@@ -59,7 +63,7 @@ impl Kind for Lean {
         };
     }
 
-    fn freshen(&mut self, _part: u8, verb: Verb) {
+    fn freshen(&mut self, verb: Verb) {
         self.value = match verb {
             Verb::Add => 0,
             Verb::Max => i64::MIN,
@@ -68,7 +72,7 @@ impl Kind for Lean {
         };
     }
 
-    fn merge(&mut self, _part: u8, verb: Verb, shard: &Lean) {
+    fn merge(&mut self, verb: Verb, shard: &Lean) {
         self.value = match verb {
             Verb::Add => self.value.wrapping_add(shard.value),
             Verb::Max => self.value.max(shard.value),

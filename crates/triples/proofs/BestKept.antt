@@ -3,7 +3,8 @@ use Rattle.std.proofs.Common.{◌≡◌, ℕ, zero, suc, ◌+◌, T, ◌⊎◌, 
 use Rattle.std.specs.Ordering.{ordering_reverse}
 use Rattle.triples.specs.Falling.{by_rank, above, falling, inserted, kept, parts, falling_ins, falling_take}
 use Rattle.triples.specs.Best.{Among, Full, Stands, Best}
-use Rattle.triples.specs.Ranking.{Ranking, less, same_rank, alike_right}
+use Rattle.triples.specs.Ranking.{Ranking, less}
+use Rattle.std.proofs.lemmas.Cmp.{tied_itself, alike_right}
 use Rattle.triples.specs.Fronts.{full_take, full_alike, full_more, full_ins, FullOver, over_none, over_top}
 
 among_take : {X : Type 0} (m : ℕ) (x : X) (l : List X) → Among x (take m l) → Among x l
@@ -34,16 +35,16 @@ module _ {X : Type 0} {rank : X → X → Ordering} {better : X → X → X} (rk
       by Greater w ih h = h
 
   stands_new : (a : X) (l : List X) → stands a (ins a l)
-  stands_new a [] = inl (same_rank rk a, rk.better_same a)
+  stands_new a [] = inl (tied_itself rk.total a, rk.better_same a)
   stands_new a (y ∷ l) = by (rank a y) refl (stands_new a l)
     where
       by : (r : Ordering) → rank a y ≡ r → stands a (ins a l) → stands a (by_rank r (y ∷ ins a l) (better a y ∷ l) (a ∷ y ∷ l))
       by Less e ih = inr ih
       by Equal e ih = inl (
-        rk.flip a (better a y) ∙ ap ordering_reverse (rk.better_alike a y a e ∙ same_rank rk a),
+        rk.total.antisymm a (better a y) ∙ ap ordering_reverse (rk.better_alike a y a e ∙ tied_itself rk.total a),
         sym (rk.better_assoc a a y) ∙ ap (λ z. better z y) (rk.better_same a),
       )
-      by Greater e ih = inl (same_rank rk a, rk.better_same a)
+      by Greater e ih = inl (tied_itself rk.total a, rk.better_same a)
 
   stands_ins : (x a : X) (l : List X) → stands x l → stands x (ins a l)
   stands_ins x a [] s = absurd s
@@ -53,7 +54,7 @@ module _ {X : Type 0} {rank : X → X → Ordering} {better : X → X → X} (rk
       by Less e ih (inl s) = inl s
       by Less e ih (inr s) = inr (ih s)
       by Equal e ih (inl s) = inl (
-        alike_right rk x (better a y) y (rk.better_alike a y y e ∙ e) ∙ s.0,
+        alike_right rk.total (better a y) y x (rk.better_alike a y y e ∙ e) ∙ s.0,
         ap (better x) (rk.better_comm a y) ∙ sym (rk.better_assoc x y a) ∙ ap (λ z. better z a) s.1 ∙ rk.better_comm y a,
       )
       by Equal e ih (inr s) = inr s
@@ -63,10 +64,10 @@ module _ {X : Type 0} {rank : X → X → Ordering} {better : X → X → X} (rk
 
   pub stands_below : (x y : X) (l : List X) → T (above rank y l) → T (falling rank l) → stands x l → rank x y ≡ Less
   stands_below x y [] t u s = absurd s
-  stands_below x y (z ∷ l) t u (inl s) = rk.alike x z y s.0 ∙ less rk y z t
+  stands_below x y (z ∷ l) t u (inl s) = rk.total.congr x z y s.0 ∙ less rk y z t
   stands_below x y (z ∷ l) t u (inr s) =
       let falls = parts (above rank z l) (falling rank l) u in
-      rk.trans x z y (stands_below x z l falls.0 falls.1 s) (less rk y z t)
+      rk.total.trans x z y (stands_below x z l falls.0 falls.1 s) (less rk y z t)
 
   stands_take : (m : ℕ) (x : X) (l : List X) → T (falling rank l) → stands x l → stands x (take m l) ⊎ Full rank m x (take m l)
   stands_take zero x l t s = inr tt
@@ -81,7 +82,7 @@ module _ {X : Type 0} {rank : X → X → Ordering} {better : X → X → X} (rk
 
   pub best_more : (n : ℕ) (a : X) (seen l : List X) → Best rank better n seen l → Best rank better n (a ∷ seen) (kept rank better n l a)
   best_more n a seen l b =
-      let falls : T (falling rank (ins a l)) = falling_ins rank better rk.flip rk.alike rk.better_alike a l b.falls in
+      let falls : T (falling rank (ins a l)) = falling_ins rank better rk.total rk.better_alike a l b.falls in
       record {
         few = omega (arith, length-take n (ins a l));
         falls = falling_take rank n (ins a l) falls;
@@ -150,7 +151,7 @@ module _ {X : Type 0} {rank : X → X → Ordering} {better : X → X → X} (rk
 
     stands_on : (x y : X) (l : List X) → rank x y ≡ Equal → better x y ≡ y → stands y l → stands x l
     stands_on x y [] e b s = absurd s
-    stands_on x y (z ∷ l) e b (inl s) = inl (rk.alike x y z e ∙ s.0, ap (better x) (sym s.1) ∙ sym (rk.better_assoc x y z) ∙ ap (λ v. better v z) b ∙ s.1)
+    stands_on x y (z ∷ l) e b (inl s) = inl (rk.total.congr x y z e ∙ s.0, ap (better x) (sym s.1) ∙ sym (rk.better_assoc x y z) ∙ ap (λ v. better v z) b ∙ s.1)
     stands_on x y (z ∷ l) e b (inr s) = inr (stands_on x y l e b s)
 
     -- what stands in w is kept in l, if all of w is

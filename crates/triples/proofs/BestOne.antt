@@ -3,13 +3,14 @@ use Rattle.std.proofs.Common.{◌≡◌, ℕ, zero, suc, ◌≤◌, T, ◌⊎◌
 use Rattle.std.specs.Ordering.{ordering_reverse}
 use Rattle.triples.specs.Falling.{above, falling, parts}
 use Rattle.triples.specs.Best.{Among, Full, Stands, Best}
-use Rattle.triples.specs.Ranking.{Ranking, same_rank}
+use Rattle.triples.specs.Ranking.{Ranking}
+use Rattle.std.proofs.lemmas.Cmp.{tied_itself}
 use Rattle.triples.proofs.BestKept.{stands_below}
 
 module _ {X : Type 0} {rank : X → X → Ordering} {better : X → X → X} (rk : Ranking rank better) where
   stands_self : (x : X) (l : List X) → Among x l → Stands rank better x l
   stands_self x [] h = absurd h
-  stands_self x (y ∷ l) (inl e) = inl (ap (rank x) (sym e) ∙ same_rank rk x, ap (better x) (sym e) ∙ rk.better_same x ∙ e)
+  stands_self x (y ∷ l) (inl e) = inl (ap (rank x) (sym e) ∙ tied_itself rk.total x, ap (better x) (sym e) ∙ rk.better_same x ∙ e)
   stands_self x (y ∷ l) (inr h) = inr (stands_self x l h)
 
   -- x is below y, or it has y's rank and y is the better
@@ -22,9 +23,9 @@ module _ {X : Type 0} {rank : X → X → Ordering} {better : X → X → X} (rk
   at_most_first n x y l t (inr f) = inl f.0
 
   both_at_most : (x y : X) → AtMost x y → AtMost y x → x ≡ y
-  both_at_most x y (inl e) (inl d) = let bad : Less ≡ Greater = sym e ∙ rk.flip x y ∙ ap ordering_reverse d in cc
-  both_at_most x y (inl e) (inr d) = let bad : Less ≡ Equal = sym e ∙ rk.flip x y ∙ ap ordering_reverse d.0 in cc
-  both_at_most x y (inr e) (inl d) = let bad : Equal ≡ Greater = sym e.0 ∙ rk.flip x y ∙ ap ordering_reverse d in cc
+  both_at_most x y (inl e) (inl d) = let bad : Less ≡ Greater = sym e ∙ rk.total.antisymm x y ∙ ap ordering_reverse d in cc
+  both_at_most x y (inl e) (inr d) = let bad : Less ≡ Equal = sym e ∙ rk.total.antisymm x y ∙ ap ordering_reverse d.0 in cc
+  both_at_most x y (inr e) (inl d) = let bad : Equal ≡ Greater = sym e.0 ∙ rk.total.antisymm x y ∙ ap ordering_reverse d in cc
   both_at_most x y (inr e) (inr d) = sym d.1 ∙ rk.better_comm y x ∙ e.1
 
   -- each of l stands in k, or is beyond its last

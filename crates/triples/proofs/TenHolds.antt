@@ -1,5 +1,5 @@
 -- The ten triples that are held are the best of what has been seen, and no other list is.
-use Rattle.std.proofs.Common.{◌≡◌, List, [], ◌∷◌, ◌++◌, fold, sym, subst}
+use Rattle.std.proofs.Common.{◌≡◌, List, [], ◌∷◌, ◌++◌, fold, refl, sym, subst}
 use Rattle.triples.specs.declared.triple.Triple.{Triple}
 use Rattle.triples.specs.Best.{BestTen, Holds}
 use Rattle.triples.specs.Tens.{topped}
@@ -12,8 +12,8 @@ holds seen held l e b =
     let best = subst (BestTen seen) (sym e) b in
     record { best = best; only = λ k c. best_one triple_ranking 10 seen k l c best }
 
-pub holds_none : (l : List Triple) → l ≡ [] → Holds [] l
-holds_none l e = holds [] [] l e (best_none triple_ranking 10)
+pub holds_none : Holds [] []
+holds_none = holds [] [] [] refl (best_none triple_ranking 10)
 
 pub holds_more : (seen held l : List Triple) (a : Triple) → l ≡ topped held a → Holds seen held → Holds (a ∷ seen) l
 holds_more seen held l a e h = holds (a ∷ seen) (topped held a) l e (best_more triple_ranking 10 a seen held h.best)

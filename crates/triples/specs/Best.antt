@@ -6,7 +6,7 @@ use Rattle.triples.specs.declared.triple.Triple.{Triple}
 use Rattle.triples.specs.Falling.{falling}
 use Rattle.triples.specs.Triples.{by_order, better}
 
--- x is in the list
+-- x is in the list; by recursion, and not by an index as std's `Contains`, since all that is proved of it goes by cases on the list
 abbrev pub Among : {X : Type 0} → X → List X → Type 0
 Among x [] = ⊥
 Among x (y ∷ ys) = (x ≡ y) ⊎ Among x ys

@@ -6,7 +6,8 @@ use Rattle.std.proofs.Common.{ap, ◌∙◌, arith}
 use Rattle.std.specs.Ordering.{ordering_reverse}
 use Rattle.triples.specs.Falling.{by_rank, above, inserted, kept}
 use Rattle.triples.specs.Best.{Full}
-use Rattle.triples.specs.Ranking.{Ranking, less, same_rank, alike_right}
+use Rattle.triples.specs.Ranking.{Ranking, less}
+use Rattle.std.proofs.lemmas.Cmp.{tied_itself, alike_right}
 
 module _ {X : Type 0} {rank : X → X → Ordering} {better : X → X → X} (rk : Ranking rank better) where
   abbrev ins : X → List X → List X
@@ -29,12 +30,12 @@ module _ {X : Type 0} {rank : X → X → Ordering} {better : X → X → X} (rk
   full_lower : (m : ℕ) (z x : X) (l : List X) → rank z x ≡ Less → full m x l → full m z l
   full_lower zero z x l e f = tt
   full_lower (suc m) z x [] e f = absurd f
-  full_lower (suc m) z x (y ∷ l) e f = (rk.trans z x y e f.0, full_lower m z x l e f.1)
+  full_lower (suc m) z x (y ∷ l) e f = (rk.total.trans z x y e f.0, full_lower m z x l e f.1)
 
   pub full_alike : (m : ℕ) (z x : X) (l : List X) → rank z x ≡ Equal → full m x l → full m z l
   full_alike zero z x l e f = tt
   full_alike (suc m) z x [] e f = absurd f
-  full_alike (suc m) z x (y ∷ l) e f = (rk.alike z x y e ∙ f.0, full_alike m z x l e f.1)
+  full_alike (suc m) z x (y ∷ l) e f = (rk.total.congr z x y e ∙ f.0, full_alike m z x l e f.1)
 
   -- what is inserted takes no one out of the front
   pub full_more : (m : ℕ) (x a : X) (l : List X) → full m x l → full m x (ins a l)
@@ -44,8 +45,8 @@ module _ {X : Type 0} {rank : X → X → Ordering} {better : X → X → X} (rk
     where
       by : (r : Ordering) → rank a y ≡ r → full m x (ins a l) → full (suc m) x (by_rank r (y ∷ ins a l) (better a y ∷ l) (a ∷ y ∷ l))
       by Less e ih = (f.0, ih)
-      by Equal e ih = (alike_right rk x (better a y) y (rk.better_alike a y y e ∙ e) ∙ f.0, f.1)
-      by Greater e ih = (rk.trans x y a f.0 (rk.flip y a ∙ ap ordering_reverse e), full_less m x (y ∷ l) f)
+      by Equal e ih = (alike_right rk.total (better a y) y x (rk.better_alike a y y e ∙ e) ∙ f.0, f.1)
+      by Greater e ih = (rk.total.trans x y a f.0 (rk.total.antisymm y a ∙ ap ordering_reverse e), full_less m x (y ∷ l) f)
 
   -- what is inserted behind the front makes it longer
   pub full_ins : (m : ℕ) (z x : X) (l : List X) → rank z x ≡ Less → full m x l → full (suc m) z (ins x l)
@@ -53,11 +54,11 @@ module _ {X : Type 0} {rank : X → X → Ordering} {better : X → X → X} (rk
   full_ins zero z x (y ∷ l) e f = by (rank x y) refl
     where
       by : (r : Ordering) → rank x y ≡ r → full 1 z (by_rank r (y ∷ ins x l) (better x y ∷ l) (x ∷ y ∷ l))
-      by Less d = (rk.trans z x y e d, tt)
-      by Equal d = (alike_right rk z (better x y) x (rk.better_alike x y x d ∙ same_rank rk x) ∙ e, tt)
+      by Less d = (rk.total.trans z x y e d, tt)
+      by Equal d = (alike_right rk.total (better x y) x z (rk.better_alike x y x d ∙ tied_itself rk.total x) ∙ e, tt)
       by Greater d = (e, tt)
   full_ins (suc m) z x [] e f = absurd f
-  full_ins (suc m) z x (y ∷ l) e f = let ih = full_ins m z x l e f.1 in let low = rk.trans z x y e f.0 in rw f.0 (low, ih)
+  full_ins (suc m) z x (y ∷ l) e f = let ih = full_ins m z x l e f.1 in let low = rk.total.trans z x y e f.0 in rw f.0 (low, ih)
 
   pub unmoved : (m : ℕ) (x : X) (l : List X) → full m x l → take m (ins x l) ≡ take m l
   unmoved zero x l f = refl

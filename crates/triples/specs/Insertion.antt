@@ -1,9 +1,9 @@
 -- Two insertions by falling rank, in either order.
 use Rattle.std.specs.Prelude.{◌≡◌, ℕ, zero, suc, List, [], ◌∷◌, take, refl}
-use Rattle.std.specs.declared.cmp.Ordering.TheVariants.{Less, Equal}
+use Rattle.std.specs.declared.cmp.Ordering.TheVariants.{Equal}
 use Rattle.std.specs.declared.cmp.Ordering.{Ordering}
 use Rattle.std.proofs.Common.{arith}
-use Rattle.std.specs.Ordering.{ordering_reverse}
+use Rattle.std.specs.Cmp.{IsTotalOrder}
 use Rattle.std.proofs.lemmas.List.{take-take}
 use Rattle.triples.specs.Falling.{inserted}
 
@@ -17,9 +17,7 @@ module _ {X : Type 0} (rank : X → X → Ordering) (better : X → X → X) whe
       let fewer : take m (x ∷ take m xs) ≡ take m (x ∷ xs) = take-take m (suc m) (x ∷ xs) (omega arith) in
       grind (arith, take-take)
 
-  module _ (flip : (x y : X) → rank x y ≡ ordering_reverse (rank y x))
-      (trans : (x y z : X) → rank x y ≡ Less → rank y z ≡ Less → rank x z ≡ Less)
-      (alike : (x y z : X) → rank x y ≡ Equal → rank x z ≡ rank y z)
+  module _ (o : IsTotalOrder rank)
       (better_alike : (x y z : X) → rank x y ≡ Equal → rank (better x y) z ≡ rank x z)
       (better_comm : (x y : X) → better x y ≡ better y x)
       (better_assoc : (x y z : X) → better (better x y) z ≡ better x (better y z))
@@ -28,10 +26,10 @@ module _ {X : Type 0} (rank : X → X → Ordering) (better : X → X → X) whe
       ins = inserted rank better
 
       pub ins_comm : (a b : X) (l : List X) → ins a (ins b l) ≡ ins b (ins a l)
-      ins_comm a b [] = grind (arith, flip, trans, alike, better_alike, better_comm)
-      ins_comm a b (x ∷ xs) = let ih = ins_comm a b xs in grind (arith, flip, trans, alike, better_alike, better_comm, better_assoc)
+      ins_comm a b [] = grind (arith, o.antisymm, o.trans, o.congr, better_alike, better_comm)
+      ins_comm a b (x ∷ xs) = let ih = ins_comm a b xs in grind (arith, o.antisymm, o.trans, o.congr, better_alike, better_comm, better_assoc)
 
       -- two of one rank count as the better
       pub ins_twice : (a b : X) (l : List X) → rank a b ≡ Equal → ins a (ins b l) ≡ ins (better a b) l
-      ins_twice a b [] e = grind (arith, flip, alike, better_alike)
-      ins_twice a b (x ∷ xs) e = let ih = ins_twice a b xs e in grind (arith, flip, trans, alike, better_alike, better_comm, better_assoc)
+      ins_twice a b [] e = grind (arith, o.antisymm, o.congr, better_alike)
+      ins_twice a b (x ∷ xs) e = let ih = ins_twice a b xs e in grind (arith, o.antisymm, o.trans, o.congr, better_alike, better_comm, better_assoc)

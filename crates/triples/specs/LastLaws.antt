@@ -7,7 +7,7 @@ use Rattle.kinds.specs.Rules.{any}
 use Rattle.triples.specs.TripleOrder.{latest_join}
 use Rattle.kinds.specs.RuleLaws.{refused_lawful, joins_lawful, single_laws}
 
-lawful : (v : Verb) → Lawful (rules v)
+pub lawful : (v : Verb) → Lawful (rules v)
 lawful Put = refused_lawful
 lawful Add = refused_lawful
 lawful Max = refused_lawful

@@ -1,4 +1,5 @@
 pub mod Best
+pub mod Held
 pub mod Falling
 pub mod Lasts
 pub mod Tens

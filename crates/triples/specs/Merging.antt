@@ -18,10 +18,10 @@ module _ {X : Type 0} {rank : X → X → Ordering} {better : X → X → X} (rk
   top = kept rank better n
 
   comm : (a b : X) (l : List X) → ins a (ins b l) ≡ ins b (ins a l)
-  comm = ins_comm rank better rk.flip rk.trans rk.alike rk.better_alike rk.better_comm rk.better_assoc
+  comm = ins_comm rank better rk.total rk.better_alike rk.better_comm rk.better_assoc
 
   twice : (a b : X) (l : List X) → rank a b ≡ Equal → ins a (ins b l) ≡ ins (better a b) l
-  twice = ins_twice rank better rk.flip rk.trans rk.alike rk.better_alike rk.better_comm rk.better_assoc
+  twice = ins_twice rank better rk.total rk.better_alike rk.better_comm rk.better_assoc
 
   pub top_comm : (a b : X) (l : List X) → top (top l b) a ≡ top (top l a) b
   top_comm a b l = keeps rank better n a (ins b l) ∙ ap (take n) (comm a b l) ∙ sym (keeps rank better n b (ins a l))
@@ -57,4 +57,4 @@ module _ {X : Type 0} {rank : X → X → Ordering} {better : X → X → X} (rk
       enough k (suc m) w (top l y) (omega arith) falls.1 (over_top rk n m y w l falls.0 (omega arith) f) (take-take n n (ins y l) (omega arith))
 
   pub top_merge : (a : X) (w l : List X) → T (falling rank w) → take n l ≡ l → fold top l (top w a) ≡ top (fold top l w) a
-  top_merge a w l t c = enough n 0 (ins a w) l (omega arith) (falling_ins rank better rk.flip rk.alike rk.better_alike a w t) (over_none rk (ins a w) l) c ∙ after_ins a w l
+  top_merge a w l t c = enough n 0 (ins a w) l (omega arith) (falling_ins rank better rk.total rk.better_alike a w t) (over_none rk (ins a w) l) c ∙ after_ins a w l

@@ -22,7 +22,7 @@ top_lawful = record {
   commutes = λ a b x s t u. tops_is (top_comm triple_ranking 10 (triple_of a) (triple_of b) x.triples);
 }
 
-lawful : (v : Verb) → Lawful (rules v)
+pub lawful : (v : Verb) → Lawful (rules v)
 lawful Put = refused_lawful
 lawful Add = refused_lawful
 lawful Max = refused_lawful

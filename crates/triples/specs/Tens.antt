@@ -5,7 +5,7 @@ use Rattle.std.proofs.Common.{sym, arith, length-take}
 use mathlib.Core.HLevel.{is_prop→PathP}
 use Rattle.std.proofs.Math.Bridge.{le_prop}
 use Rattle.std.proofs.Math.Dec.{T_prop}
-use Rattle.std.specs.Cmp.{int_cmp_total}
+use Rattle.std.specs.Cmp.{IsTotalOrder, int_cmp_total, on_total}
 use Rattle.std.proofs.lemmas.Bool.{cond_both}
 use Rattle.triples.specs.declared.triple.Triple.{Triple}
 use Rattle.kinds.specs.declared.operation.Verb.{Verb}
@@ -41,15 +41,19 @@ take_few n xs h = omega (arith, length-take n xs)
 abbrev pub tops : (n : ℕ) (xs : List Triple) → n ≤ 10 → T (falling by_order (take n xs)) → Tops
 tops n xs few falls = record { triples = take n xs; few = take_few n xs few; falls = falls }
 
+-- the orders are in a total order
+pub order_total : IsTotalOrder by_order
+order_total = on_total (λ (x : Triple). x.order) int_cmp_total
+
 -- the greater of two triples of one order has that order
 pub better_alike : (x y z : Triple) → by_order x y ≡ Equal → by_order (better x y) z ≡ by_order x z
-better_alike x y z e = cond_both (lower x y) y x (λ w. by_order w z ≡ by_order x z) (λ _. sym (int_cmp_total.congr x.order y.order z.order e)) (λ _. refl)
+better_alike x y z e = cond_both (lower x y) y x (λ w. by_order w z ≡ by_order x z) (λ _. sym (order_total.congr x y z e)) (λ _. refl)
 
 -- the orders still fall
 pub top_falls : (x : Tops) (e : Triple) → T (falling by_order (topped x.triples e))
 top_falls x e =
     falling_take by_order 10 (inserted by_order better e x.triples)
-    (falling_ins by_order better (λ x y. int_cmp_total.antisymm x.order y.order) (λ x y z. int_cmp_total.congr x.order y.order z.order) better_alike e x.triples x.falls)
+    (falling_ins by_order better order_total better_alike e x.triples x.falls)
 
 -- the same of a meaning
 abbrev pub top : Tops → Triple → Tops

@@ -1,19 +1,20 @@
 -- The greater of two triples: it joins them, and chooses among triples of one order.
-use Rattle.std.specs.Prelude.{◌≡◌, ℕ, ◌<◌, false, ◌⊎◌, ℤ, ◌<ℤ◌, Some, None, refl}
+use Rattle.std.specs.Prelude.{◌≡◌, ℕ, false, ◌⊎◌, ℤ, Some, None, refl}
 use Rattle.std.specs.declared.cmp.Ordering.TheVariants.{Less, Equal, Greater}
 use Rattle.std.specs.declared.cmp.Ordering.{Ordering}
-use Rattle.std.proofs.Common.{sym, ap, subst, ◌∙◌, true≢false, inl, inr}
-use Rattle.std.specs.Cmp.{IsTotalOrder, int_cmp_total, nat_cmp_total, ranks, int_ranks, then_total, on_total}
+use Rattle.std.proofs.Common.{sym, ap, ◌∙◌, true≢false, inl, inr}
+use Rattle.std.specs.Cmp.{IsTotalOrder, int_cmp_total, nat_cmp_total, then_total, on_total}
 use Rattle.std.specs.Cmp.Lexicographic.{options_total}
-use Rattle.std.specs.Ordering.{is_lt, is_eq, ordering_reverse, ordering_then, MatchOrdering, int_cmp, nat_cmp}
+use Rattle.std.specs.Ordering.{is_lt, is_eq, ordering_reverse, ordering_then, int_cmp, nat_cmp}
 use Rattle.std.specs.Option.{option_cmp}
 use Rattle.std.proofs.lemmas.List.MinMax.{ranks_by}
+use Rattle.std.proofs.lemmas.Map.Lookups.{exact_unsigned, exact_signed, exact_pairs}
 use Rattle.std.proofs.lemmas.Bool.{cond_both}
 use Rattle.triples.specs.declared.triple.Triple.{Triple}
 use Rattle.triples.specs.Triples.{numbers, ranked, lower, greater, better, by_order}
 use Rattle.triples.specs.Lasts.{Latest, numbers_if, compared, below}
 use Rattle.triples.specs.GreaterJoin.{greater_join, greater_comm, greater_assoc}
-use Rattle.triples.specs.Tens.{better_alike}
+use Rattle.triples.specs.Tens.{order_total, better_alike}
 use Rattle.triples.specs.Ranking.{Ranking}
 use Rattle.kinds.specs.RuleLaws.{Join}
 
@@ -32,25 +33,14 @@ numbers_if_total = options_total numbers_total
 
 -- ---- triples that stand level are the same
 
-then_equal : (k m : Ordering) → ordering_then k m ≡ Equal → (k ≡ Equal) × (m ≡ Equal)
-then_equal Less m e = absurd (true≢false (ap is_lt e))
-then_equal Equal m e = (refl, e)
-then_equal Greater m e = absurd (true≢false (sym (ap is_eq e)))
-
-tied_unsigned : (a b : ℕ) → nat_cmp a b ≡ Equal → a ≡ b
-tied_unsigned a b e = subst (λ k. MatchOrdering k (a < b) (a ≡ b) (b < a)) e (ranks a b)
-
-tied_signed : (a b : ℤ) → int_cmp a b ≡ Equal → a ≡ b
-tied_signed a b e = subst (λ k. MatchOrdering k (a <ℤ b) (a ≡ b) (b <ℤ a)) e (int_ranks a b)
+numbers_exact : (x y : ℤ × (ℕ × ℕ)) → by_numbers x y ≡ Equal → x ≡ y
+numbers_exact =
+    exact_pairs int_cmp (λ (x y : ℕ × ℕ). ordering_then (nat_cmp x.0 y.0) (nat_cmp x.1 y.1)) exact_signed (exact_pairs nat_cmp nat_cmp exact_unsigned exact_unsigned)
 
 triple_tied : (x y : Triple) → ranked x y ≡ Equal → x ≡ y
 triple_tied x y e =
-    let o = then_equal (int_cmp x.order y.order) _ e in
-    let l = then_equal (nat_cmp x.worker y.worker) (nat_cmp x.mark y.mark) o.1 in
-    let order = tied_signed x.order y.order o.0 in
-    let worker = tied_unsigned x.worker y.worker l.0 in
-    let mark = tied_unsigned x.mark y.mark l.1 in
-    λ i. record { order = order i; worker = worker i; mark = mark i }
+    let same = numbers_exact (numbers x) (numbers y) e in
+    λ i. record { order = (same i).0; worker = (same i).1.0; mark = (same i).1.1 }
 
 tied : (x y : Latest) → compared x y ≡ Equal → x ≡ y
 tied None None e = refl
@@ -82,9 +72,7 @@ triple_level x y p q = triple_tied x y (unranked (ranked x y) p (sym (ap is_lt (
 
 pub triple_ranking : Ranking by_order better
 triple_ranking = record {
-  flip = λ x y. int_cmp_total.antisymm x.order y.order;
-  trans = λ x y z. int_cmp_total.trans x.order y.order z.order;
-  alike = λ x y z. int_cmp_total.congr x.order y.order z.order;
+  total = order_total;
   better_alike = better_alike;
   better_comm = greater_comm (ranks_by numbers_total numbers) triple_level;
   better_assoc = greater_assoc (ranks_by numbers_total numbers) triple_level;

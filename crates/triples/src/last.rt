@@ -1,11 +1,11 @@
 // The kind of the last triple.
 ghost use Rattle.std.specs.Prelude.{◌≡◌, None};
-ghost use Rattle.triples.specs.Lasts.{Latest, last_model};
-ghost use Rattle.triples.specs.LastLaws.{last_laws};
+ghost use Rattle.triples.specs.Lasts.{Latest, rules as last_rules, show as last_show};
+ghost use Rattle.triples.specs.LastLaws.{lawful as last_lawful};
 
 use crate::triple::Triple;
-use kinds::kind::Kind;
 use kinds::operation::{Argument, Verb};
+use kinds::part::Part;
 
 // The greatest triple so far, if there is one.
 #[derive(Clone, Copy)]
@@ -23,51 +23,53 @@ impl Last {
 }
 
 // `last` is taken with any argument, and splits.
-impl Kind for Last {
+impl Part for Last {
     ghost Meaning = { Latest };
 
     ghost meaning = { λ x. x.triple };
 
-    ghost model = { last_model };
+    ghost rules = { last_rules };
 
-    ghost laws = { last_laws };
+    ghost NUMBERS = { 4 };
 
-    fn takes(part: u8, verb: Verb, _argument: Argument) -> bool {
-        Last::splits(part, verb)
+    ghost show = { last_show };
+
+    ghost lawful = { last_lawful };
+
+    const NUMBERS: u8 = 4;
+
+    fn takes(verb: Verb, _argument: Argument) -> bool {
+        Last::splits(verb)
     }
 
-    fn splits(part: u8, verb: Verb) -> bool {
-        part == 0 && matches!(verb, Verb::Last)
+    fn splits(verb: Verb) -> bool {
+        verb == Verb::Last
     }
 
-    fn shows(part: u8, number: u8) -> bool {
-        part == 0 && number < 4
-    }
-
-    fn shown(&self, _part: u8, number: u8) -> i64 {
+    fn shown(&self, number: u8) -> i64 {
         match (self.triple, number) {
             (Some(_), 0) => 1,
             (Some(triple), 1) => triple.order,
-            (Some(triple), 2) => triple.worker as i64,
-            (Some(triple), 3) => triple.mark as i64,
+            (Some(triple), 2) => i64::from(triple.worker),
+            (Some(triple), 3) => i64::from(triple.mark),
             _ => 0,
         }
     }
 
-    fn apply(&mut self, _part: u8, verb: Verb, argument: Argument) {
-        if matches!(verb, Verb::Last) {
-            self.triple = self.triple.max(Some(Triple::of(argument)));
+    fn apply(&mut self, verb: Verb, argument: Argument) {
+        if verb == Verb::Last {
+            self.triple = self.triple.max(Some(Triple::from(argument)));
         }
     }
 
-    fn freshen(&mut self, _part: u8, verb: Verb) {
-        if matches!(verb, Verb::Last) {
+    fn freshen(&mut self, verb: Verb) {
+        if verb == Verb::Last {
             self.triple = None;
         }
     }
 
-    fn merge(&mut self, _part: u8, verb: Verb, shard: &Last) {
-        if matches!(verb, Verb::Last) {
+    fn merge(&mut self, verb: Verb, shard: &Last) {
+        if verb == Verb::Last {
             self.triple = self.triple.max(shard.triple);
         }
     }

@@ -1,18 +1,19 @@
 // The kind of the ten triples of the highest orders.
-ghost use Rattle.std.specs.Prelude.{◌≡◌, ◌≤◌, T, List, [], ◌∷◌, ◌++◌, length, take, fold, slice_index_or};
-ghost use Rattle.triples.specs.Triples.{by_order, zero};
-ghost use Rattle.triples.specs.declared.triple.Triple.{Triple as Item};
-ghost use Rattle.triples.specs.Best.{Holds};
+ghost use Rattle.std.specs.Prelude.{◌≡◌, ◌≤◌, T, length, take};
+ghost use Rattle.triples.specs.Triples.{by_order};
 ghost use Rattle.triples.specs.Falling.{falling};
-ghost use Rattle.triples.specs.Tens.{Tops, tops, topped, ten_model};
-ghost use Rattle.triples.specs.TenLaws.{ten_laws};
+ghost use Rattle.triples.specs.Tens.{Tops, tops, topped, rules as ten_rules, show as ten_show};
+ghost use Rattle.triples.specs.TenLaws.{lawful as ten_lawful};
 
 use crate::triple::Triple;
-use kinds::kind::Kind;
 use kinds::operation::{Argument, Verb};
+use kinds::part::Part;
 use std::cmp::Ordering;
+use std::mem;
 
 // The first `len` of `triples` count: their orders fall, so no two are the same.
+// A kind's values are copied with no memory and no call that can fail, so an array stands here beside its length: an `ArrayVec` is no `Copy`.
+// It has no `impl Model`: that of a `Copy` type gives its fields back, and the triples that count do not say what stands behind them.
 #[derive(Clone, Copy)]
 pub struct Ten {
     triples: [Triple; 10],
@@ -30,10 +31,18 @@ const BLANK: Triple = Triple {
 };
 
 impl Ten {
+    ghost use Rattle.std.specs.Prelude.{◌≡◌, List, [], ◌∷◌, ◌++◌, fold, slice_index_or};
+    ghost use Rattle.triples.specs.Triples.{zero};
+    ghost use Rattle.triples.specs.declared.triple.Triple.{Triple as Item};
+    ghost use Rattle.triples.specs.Best.{Holds};
+    ghost use Rattle.triples.specs.Tens.{topped};
+    ghost use Rattle.triples.specs.Held.{held};
+
     // Nothing has come yet.
+    #[tactic(auto, using(crate::proofs::TenHolds::holds_none))]
     pub fn new() -> Ten
-        ensures items { take result.len result.triples ≡ [] }
-        ensures holds { Holds [] (take result.len result.triples) }
+        ensures items { held result ≡ [] }
+        ensures holds { Holds [] (held result) }
     {
         Ten {
             triples: [BLANK; 10],
@@ -44,8 +53,8 @@ impl Ten {
     // These and `new`, of which the ten of the highest orders stay: if these are the ten of all that has been seen,
     // the result has the ten of that and `new`.
     pub fn with(self, new: Triple) -> Ten
-        ensures items { take result.len result.triples ≡ topped (take self.len self.triples) new }
-        ensures holds { (seen : List Item) → Holds seen (take self.len self.triples) → Holds (new ∷ seen) (take result.len result.triples) }
+        ensures items { held result ≡ topped (held self) new }
+        ensures holds { (seen : List Item) → Holds seen (held self) → Holds (new ∷ seen) (held result) }
     {
         let mut triples = self.triples;
         let len = insert(&mut triples, self.len, new);
@@ -53,84 +62,92 @@ impl Ten {
     }
 
     // These and those of `shard`, of which the ten of the highest orders stay: those of all that either has seen.
+    #[tactic(auto, using(std::proofs::lemmas::List::Sums::fold_more))]
     pub fn with_all(self, shard: &Ten) -> Ten
-        ensures items { take result.len result.triples ≡ fold topped (take self.len self.triples) (take shard.now.len shard.now.triples) }
-        ensures holds { (seen aside : List Item) → Holds seen (take self.len self.triples) → Holds aside (take shard.now.len shard.now.triples) → Holds (aside ++ seen) (take result.len result.triples) }
+        ensures items { held result ≡ fold topped (held self) (held shard.now) }
+        ensures holds { (seen aside : List Item) → Holds seen (held self) → Holds aside (held shard.now) → Holds (aside ++ seen) (held result) }
     {
         let mut merged = self;
-        for i in 0..shard.len {
-            merged = merged.with(shard.triples[i]);
+        for triple in shard.held() {
+            merged = merged.with(*triple);
         }
         merged
     }
 
     // The triple at `place`, and zeros past the last.
     fn at(&self, place: usize) -> Triple
-        ensures { result ≡ slice_index_or (take self.now.len self.now.triples) place zero }
+        ensures { result ≡ slice_index_or (held self.now) place zero }
     {
-        if place < self.len {
-            self.triples[place]
-        } else {
-            BLANK
-        }
+        self.held().get(place).copied().unwrap_or(BLANK)
+    }
+
+    // The triples that count.
+    fn held(&self) -> &[Triple]
+        ensures { result.now ≡ held self.now }
+    {
+        &self.triples[..self.len]
     }
 }
 
 // `top` is taken with any argument, and splits.
-impl Kind for Ten {
+#[tactic(auto, using(crate::specs::Tens::tops_is, crate::specs::TenFolds::folded_triples))]
+impl Part for Ten {
     ghost Meaning = { Tops };
 
     ghost meaning = { λ x. tops x.len x.triples x.few x.falls };
 
-    ghost model = { ten_model };
+    ghost rules = { ten_rules };
 
-    ghost laws = { ten_laws };
+    ghost NUMBERS = { 31 };
 
-    fn takes(part: u8, verb: Verb, _argument: Argument) -> bool {
-        Ten::splits(part, verb)
+    ghost show = { ten_show };
+
+    ghost lawful = { ten_lawful };
+
+    const NUMBERS: u8 = 31;
+
+    fn takes(verb: Verb, _argument: Argument) -> bool {
+        Ten::splits(verb)
     }
 
-    fn splits(part: u8, verb: Verb) -> bool {
-        part == 0 && matches!(verb, Verb::Top)
+    fn splits(verb: Verb) -> bool {
+        verb == Verb::Top
     }
 
-    fn shows(part: u8, number: u8) -> bool {
-        part == 0 && number < 31
-    }
-
-    fn shown(&self, _part: u8, number: u8) -> i64 {
+    fn shown(&self, number: u8) -> i64 {
         if number == 0 {
+            // There is no `From` of a `usize` here; the check proves that the cast loses nothing.
             return self.len as i64;
         }
-        let triple = self.at((number as usize - 1) / 3);
+        let triple = self.at(usize::from((number - 1) / 3));
         match (number - 1) % 3 {
             0 => triple.order,
-            1 => triple.worker as i64,
-            _ => triple.mark as i64,
+            1 => i64::from(triple.worker),
+            _ => i64::from(triple.mark),
         }
     }
 
-    fn apply(&mut self, _part: u8, verb: Verb, argument: Argument) {
-        if matches!(verb, Verb::Top) {
-            *self = self.with(Triple::of(argument));
+    fn apply(&mut self, verb: Verb, argument: Argument) {
+        if verb == Verb::Top {
+            *self = self.with(Triple::from(argument));
         }
     }
 
-    fn freshen(&mut self, _part: u8, verb: Verb) {
-        if matches!(verb, Verb::Top) {
+    fn freshen(&mut self, verb: Verb) {
+        if verb == Verb::Top {
             *self = Ten::new();
         }
     }
 
-    fn merge(&mut self, _part: u8, verb: Verb, shard: &Ten) {
-        if matches!(verb, Verb::Top) {
+    fn merge(&mut self, verb: Verb, shard: &Ten) {
+        if verb == Verb::Top {
             *self = self.with_all(shard);
         }
     }
 }
 
 // Puts `new` into its place among the first `len`; of one order the greater stays, and beyond ten the lowest leaves.
-// Returns how many there are then.
+// Returns how many there are then. It takes a `Ten`'s fields: the orders fall again only once `new` has its place.
 fn insert(triples: &mut [Triple; 10], len: usize, new: Triple) -> usize
     requires few { len ≤ 10 }
     requires falls { T (falling by_order (take len triples.old)) }
@@ -138,18 +155,14 @@ fn insert(triples: &mut [Triple; 10], len: usize, new: Triple) -> usize
     ensures placed { take result triples.new ≡ topped (take len triples.old) new }
 {
     let mut carried = new;
-    for i in 0..len {
-        let here = triples[i];
+    for here in triples[..len].iter_mut() {
         match carried.order.cmp(&here.order) {
             Ordering::Less => {}
             Ordering::Equal => {
-                triples[i] = carried.max(here);
+                *here = carried.max(*here);
                 return len;
             }
-            Ordering::Greater => {
-                triples[i] = carried;
-                carried = here;
-            }
+            Ordering::Greater => mem::swap(here, &mut carried),
         }
     }
     if len < 10 {

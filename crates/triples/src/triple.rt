@@ -12,11 +12,11 @@ pub struct Triple {
     pub mark: u32,
 }
 
-impl Triple {
-    // The argument's number is the order.
-    pub fn of(argument: Argument) -> Triple
-        ensures { result ≡ triple_of argument }
-    {
+// The argument's number is the order.
+impl From<Argument> for Triple {
+    ghost from_gives = { λ argument result. result ≡ triple_of argument };
+
+    fn from(argument: Argument) -> Triple {
         Triple {
             order: argument.number,
             worker: argument.worker,

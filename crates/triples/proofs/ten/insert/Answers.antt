@@ -1,28 +1,32 @@
 -- A triple passes the carried one, changes places with it, or meets it; at the end the carried one arrives.
-use Rattle.std.proofs.Common.{◌≡◌, ◌+◌, get_or, set, sym, arith, rules}
+use Rattle.std.proofs.Common.{◌≡◌, get_or, sym, arith, rules, length-take, length-set}
 use Rattle.triples.specs.Triples.{zero, by_order, better}
-use Rattle.triples.proofs.Placing.{passes, swaps, meets, arrives, kept_whole}
+use Rattle.triples.proofs.Placing.{passes, swaps, meets, arrives, kept_whole, kept_longer, kept_full}
+use Rattle.std.proofs.lemmas.List.{set-get_or}
 use Rattle.triples.proofs.ten.insert.Goals as goal
 use Rattle.triples.proofs.ten.insert.Goals.{in-Less, in-Greater}
 
-pub returns-in-Equal : goal.returns-in-Equal
-returns-in-Equal c = record {
-  few = c.requires.few;
-  placed =
-      let best : better c.loop-i.carried (get_or c.loop-i.triples c.loop-i.i zero) ≡ c.max.result = search rules in
-      let met = meets by_order better _ c.loop-i.triples c.args.len c.loop-i.i c.loop-i.carried zero c.loop-i-test.true (omega arith) (sym c.in-Equal.ensures) c.loop-i.invariant.1 in
-      kept_whole _ _ _ 10 c.requires.few (rw best at met);
-}
+pub returns-in-Equal-clause-placed : goal.returns-in-Equal-clause-placed
+returns-in-Equal-clause-placed c =
+    let w = c.loop-here in
+    let best : better w.carried (get_or w.here-items w.here-index zero) ≡ c.max.result = search rules in
+    let met = meets by_order better _ w.here-items w.here-index w.carried zero (omega arith) (sym c.in-Equal.ensures) w.invariant in
+    kept_whole 10 c.args.len _ _ _ (omega (arith, length-take c.args.len c.args.triples.now, length-set w.here-items w.here-index c.max.result)) c.requires.few (rw best at met)
 
-pub loop-i-preserved : goal.loop-i-preserved
-loop-i-preserved c =
+pub loop-here-preserved : goal.loop-here-preserved
+loop-here-preserved c =
+    let l = c.loop-here in
     elim c.match-cmp.branch [
-      | in-Less w ↦ (c.match-cmp.array_long, rw (w.triples-is, w.carried-is) (passes by_order better _ c.loop-i.triples c.args.len c.loop-i.i c.loop-i.carried zero c.loop-i-test.true (omega arith) (sym w.in-Less.ensures) c.loop-i.invariant.1))
-      | in-Greater w ↦ (c.match-cmp.array_long, rw (w.triples-is, w.carried-is) (swaps by_order better _ c.loop-i.triples c.args.len c.loop-i.i c.loop-i.carried zero c.loop-i-test.true (omega arith) (sym w.in-Greater.ensures) c.loop-i.invariant.1))
+      | in-Less w ↦ rw (w.here-items-is, w.carried-is, set-get_or l.here-items l.here-index zero) (passes by_order better _ l.here-items l.here-index l.carried zero (omega arith) (sym w.in-Less.ensures) l.invariant)
+      | in-Greater w ↦ rw (w.here-items-is, w.carried-is, w.swap.ensures.x_after, w.swap.ensures.y_after) (swaps by_order better _ l.here-items l.here-index l.carried zero (omega arith) (sym w.in-Greater.ensures) l.invariant)
     ]
 
-pub returns-then-len-lt10 : goal.returns-then-len-lt10
-returns-then-len-lt10 c = record {
-  few = search rules;
-  placed = kept_whole (set c.loop-i.triples c.args.len c.loop-i.carried) _ (c.args.len + 1) 10 (omega arith) (arrives by_order better _ c.loop-i.triples c.args.len c.loop-i.i c.loop-i.carried (omega arith) c.loop-i-test.false c.loop-i.auto.i-end c.loop-i.invariant.1);
-}
+pub returns-then-len-lt10-clause-placed : goal.returns-then-len-lt10-clause-placed
+returns-then-len-lt10-clause-placed c =
+    let l = c.loop-here in
+    kept_longer 10 c.args.len l.here-items _ _ (omega (arith, length-take c.args.len c.args.triples.now)) l.carried (omega arith) (omega arith) (arrives by_order better _ l.here-items l.here-index l.carried (omega arith) l.invariant)
+
+pub returns-else-len-lt10-clause-placed : goal.returns-else-len-lt10-clause-placed
+returns-else-len-lt10-clause-placed c =
+    let l = c.loop-here in
+    kept_full 10 c.args.len l.here-items _ _ (omega (arith, length-take c.args.len c.args.triples.now)) l.carried (omega arith) (arrives by_order better _ l.here-items l.here-index l.carried (omega arith) l.invariant)
