@@ -1,7 +1,6 @@
 // Reads texts, right and wrong, and says what the reader says of them.
 #![tactic(auto)]
 
-use kinds::operation::Verb;
 use slips::entry::{Action, Entry};
 use slips::fault::Fault;
 use slips::read;
@@ -110,21 +109,8 @@ fn spell(rt: &HostRuntime, entry: Entry) -> io::Result<()> {
             "  {key}.{part} need {number} at least {bound}"
         ),
         Action::Change { verb, number, mark } => {
-            let verb = name(verb);
             println!(rt; "  {key}.{part} {verb} {number} mark {mark}")
         }
-    }
-}
-
-// The verb's word.
-fn name(verb: Verb) -> &'static str {
-    match verb {
-        Verb::Put => "put",
-        Verb::Add => "add",
-        Verb::Max => "max",
-        Verb::Min => "min",
-        Verb::Last => "last",
-        Verb::Top => "top",
     }
 }
 
