@@ -62,7 +62,7 @@ returns-in_err-check_entries g c =
     let same : code p.0 ≡ code x = ap code p.2 in
     let read = c.in_ok-entries.ensures in
     let keys : c.len.result ≡ length (map m (vec_items c.args.self.now.values)) = simp length-map (search rules) in
-    let tests = late_at k s c.len.result w c.in_ok-worker.worker es c.as_slice.result.now keys (allowed_is w (early k s w) _ c.in_ok-worker.ensures) c.as_slice.ensures in
+    let tests = late_at k s c.len.result w c.in_ok-worker.worker es c.as_slice.result.now keys (allowed_is w (early k s w) _ c.in_ok-worker.ensures) c.as_slice.ensures.value in
     let found = refused_by tt (late k c.len.result c.in_ok-worker.worker c.as_slice.result.now) (code x) c.in_err-check_entries.ensures in
     let turn =
     read_turn k s w c.args.text.now _ (Ok es) (allowed_by w (early k s w) _ c.in_ok-worker.ensures) read.reads read.only
@@ -80,7 +80,7 @@ returns g c =
     let read = c.in_ok-entries.ensures in
     let who = allowed_is w (early k s w) _ c.in_ok-worker.ensures in
     let keys : c.len.result ≡ length (map m (vec_items c.args.self.now.values)) = simp length-map (search rules) in
-    let tests = late_at k s c.len.result w c.in_ok-worker.worker es c.as_slice.result.now keys who c.as_slice.ensures in
+    let tests = late_at k s c.len.result w c.in_ok-worker.worker es c.as_slice.result.now keys who c.as_slice.ensures.value in
     let passed = allowed_by tt (late k c.len.result c.in_ok-worker.worker c.as_slice.result.now) _ c.in_ok-check_entries.ensures in
     let turn =
     read_turn k s w c.args.text.now _ (Ok es) (allowed_by w (early k s w) _ c.in_ok-worker.ensures) read.reads read.only
