@@ -30,7 +30,7 @@ module _ {X M : Type 0} (meaning : X → M) (xs : List X) (i : ℕ) where
     meant : (d : M) → get_or (map meaning xs) i d ≡ meaning x
     meant d = get_or-map meaning xs i x d within ∙ ap meaning (sym found)
 
-    read_within : (f : M → ℤ) → f (meaning x) ≡ peek i f (map meaning xs)
+    pub read_within : (f : M → ℤ) → f (meaning x) ≡ peek i f (map meaning xs)
     read_within f = sym (peek_within f (map meaning xs) i (meaning x) (rw length-map within) ∙ ap f (meant (meaning x)))
 
     pub changed_within : (f : M → M) (y : X) → meaning y ≡ f (meaning x) → map meaning (set xs i y) ≡ modify i f (map meaning xs)

@@ -18,7 +18,7 @@ returns-in_err-check_entries g c =
     let wrong = refused tt _ refusal c.in_err-check_entries.ensures in
     let answer : coded commit_of c.from_residual-in_err-check_entries.result ≡ Err refusal = search rules in
     let read = c.in_ok-entries.ensures in
-    let turn = read_turn g.K.Kind.model s w c.args.text.now (entries_of c.in_ok-entries.entries) _ admitted.0 read.reads read.only (rw (← keys, ← admitted.1, ← c.as_slice.ensures, wrong, answer)) in
+    let turn = read_turn g.K.Kind.model s w c.args.text.now (entries_of c.in_ok-entries.entries) _ admitted.0 read.reads read.only (rw (← keys, ← admitted.1, ← c.as_slice.ensures.value, wrong, answer)) in
     record { runs = turn.0; only = turn.1 }
 
 pub returns : goal.returns
@@ -29,5 +29,5 @@ returns g c =
     let keys : c.len.result ≡ length s.values = simp length-map (search rules) in
     let right = allowed tt _ _ c.in_ok-check_entries.ensures in
     let read = c.in_ok-entries.ensures in
-    let turn = read_turn g.K.Kind.model s w c.args.text.now (entries_of c.in_ok-entries.entries) _ admitted.0 read.reads read.only (rw (← keys, ← admitted.1, ← c.as_slice.ensures, right.0, c.as_slice.ensures) c.commit.ensures) in
+    let turn = read_turn g.K.Kind.model s w c.args.text.now (entries_of c.in_ok-entries.entries) _ admitted.0 read.reads read.only (rw (← keys, ← admitted.1, ← c.as_slice.ensures.value, right.0, c.as_slice.ensures.value) c.commit.ensures) in
     record { runs = turn.0; only = turn.1 }
