@@ -54,7 +54,7 @@ impl Part for Count {
         self.value as i64
     }
 
-    // `add` and `max` stand here and in `merge`: by way of a `Count` of the argument's number the proof needs a lemma over all verbs.
+    // `add` and `max` stand here and in `merge`: where a `Count` of the argument's number is merged, the proof of `max` needs a lemma over all verbs.
     fn apply(&mut self, verb: Verb, argument: Argument) {
         let number = u64::try_from(argument.number).unwrap_or(0);
         self.value = match verb {

@@ -52,7 +52,7 @@ impl Part for Lean {
         self.value
     }
 
-    // All but `put` stand here and in `merge`: by way of a `Lean` of the argument's number the proof needs a lemma over all verbs.
+    // All but `put` stand here and in `merge`: where a `Lean` of the argument's number is merged, the proof needs a lemma over all verbs.
     fn apply(&mut self, verb: Verb, argument: Argument) {
         self.value = match verb {
             Verb::Put => argument.number,

@@ -8,10 +8,10 @@ use Rattle.triples.proofs.ten.insert.Goals.{in-Less, in-Greater}
 
 pub returns-in-Equal-clause-placed : goal.returns-in-Equal-clause-placed
 returns-in-Equal-clause-placed c =
-    let w = c.loop-here in
-    let best : better w.carried (get_or w.here-items w.here-index zero) ≡ c.max.result = search rules in
-    let met = meets by_order better _ w.here-items w.here-index w.carried zero (omega arith) (sym c.in-Equal.ensures) w.invariant in
-    kept_whole 10 c.args.len _ _ _ (omega (arith, length-take c.args.len c.args.triples.now, length-set w.here-items w.here-index c.max.result)) c.requires.few (rw best at met)
+    let l = c.loop-here in
+    let best : better l.carried (get_or l.here-items l.here-index zero) ≡ c.max.result = search rules in
+    let met = meets by_order better _ l.here-items l.here-index l.carried zero (omega arith) (sym c.in-Equal.ensures) l.invariant in
+    kept_whole 10 c.args.len _ _ _ (omega (arith, length-take c.args.len c.args.triples.now, length-set l.here-items l.here-index c.max.result)) c.requires.few (rw best at met)
 
 pub loop-here-preserved : goal.loop-here-preserved
 loop-here-preserved c =
