@@ -5,6 +5,7 @@ use Rattle.std.specs.List.{flat_map}
 use Rattle.std.specs.Fmt.{signed_decimal}
 use Rattle.kinds.specs.declared.operation.Verb.{Verb}
 use Rattle.kinds.specs.declared.operation.Verb.TheVariants.{Put, Add, Max, Min, Last, Top}
+use Rattle.kinds.specs.VerbTexts.{verb_text}
 use Rattle.words.specs.Numbers.{keyed, IsKey}
 use Rattle.slips.specs.declared.entry.Action.{Action}
 use Rattle.slips.specs.declared.entry.Entry.{Entry}
@@ -24,12 +25,7 @@ marked Top = true
 abbrev pub heading : Head → List ℕ
 heading Show = codes "show"
 heading Need = codes "need"
-heading (Change Put) = codes "put"
-heading (Change Add) = codes "add"
-heading (Change Max) = codes "max"
-heading (Change Min) = codes "min"
-heading (Change Last) = codes "last"
-heading (Change Top) = codes "top"
+heading (Change v) = verb_text v
 
 abbrev pub headed : Action → Head
 headed (Action.Show n) = Show

@@ -4,7 +4,7 @@ use Rattle.slips.specs.declared.fault.Fault.TheVariants.{Grammar}
 use Rattle.slips.specs.Reads.{Sized, ReadAs, told}
 use Rattle.slips.specs.Wrong.{Fails}
 use Rattle.slips.proofs.Exact.{only_one}
-use Rattle.slips.proofs.Loop.{Read, read_more, read_all, room, fails_there}
+use Rattle.slips.proofs.Loop.{read_all, room, fails_there}
 use Rattle.slips.proofs.reader.read.Goals as goal
 
 pub push-requires : goal.push-requires
@@ -15,8 +15,8 @@ returns-in-Err c =
     let text = c.args.text.now in
     let sized : Sized text = (search rules, search rules, search rules) in
     let reads : (n : ℕ) → n ≡ length c.loop-at.entries.items → ReadAs text (told (Err (Grammar n c.in-Err.byte))) = λ n e.
-        let fails : Fails text n c.in-Err.byte = subst (λ m. Fails text m c.in-Err.byte) (sym e) (fails_there _ _ _ _ c.loop-at.invariant c.loop-at-test.true c.in-Err.ensures) in
-        inr (sized, (n, c.in-Err.byte, fails, refl)) in
+    let fails : Fails text n c.in-Err.byte = subst (λ m. Fails text m c.in-Err.byte) (sym e) (fails_there _ _ _ _ c.loop-at.invariant c.loop-at-test.true c.in-Err.ensures) in
+    inr (sized, (n, c.in-Err.byte, fails, refl)) in
     record { reads = reads _ (search rules); only = λ q h. only_one text q _ h (reads _ (search rules)) }
 
 pub returns : goal.returns
