@@ -73,10 +73,7 @@ fn action<'a>(head: Head, first: Word<'a>, second: Word<'a>) -> Result<(Action, 
 fn takes_mark(verb: Verb) -> bool
     ensures { result ≡ marked verb }
 {
-    match verb {
-        Verb::Last | Verb::Top => true,
-        Verb::Put | Verb::Add | Verb::Max | Verb::Min => false,
-    }
+    matches!(verb, Verb::Last | Verb::Top)
 }
 
 // What a word spells, or the word's place where it spells nothing of the kind.
