@@ -8,7 +8,7 @@ ghost use Rattle.replies.specs.Totals.{nil, counted, Fair};
 use crate::engine::Engine;
 use replies::reply::{Failure, Reply};
 use replies::totals::Totals;
-use script::{Command, Opening, parse, unescape};
+use script::{Command, Opening, Query, parse, unescape};
 use std::alloc::Global;
 
 // The engine that is open, if one is, and the totals so far.
@@ -60,7 +60,7 @@ fn reply(engine: &mut Option<Engine>, heap: Global, line: &[u8]) -> Result<Reply
         None => Err(Failure::NotUnderstood),
         Some(Command::Open(opening)) => open(engine, heap, opening),
         Some(Command::Run { worker, text }) => run(engine, heap, worker, text),
-        Some(Command::Tally { key, part, number }) => tally(engine, key, part, number),
+        Some(Command::Tally(asked)) => tally(engine, asked),
     }
 }
 
@@ -90,10 +90,10 @@ fn run(
 }
 
 // The number that is shown.
-fn tally(engine: &Option<Engine>, key: u64, part: u64, number: u64) -> Result<Reply, Failure>
-    ensures { told result ≡ number_told (engine_of engine.now) key part number }
+fn tally(engine: &Option<Engine>, asked: Query) -> Result<Reply, Failure>
+    ensures { told result ≡ number_told (engine_of engine.now) asked.key asked.part asked.number }
 {
     let engine = engine.as_ref().ok_or(Failure::NoEngine)?;
-    let shown = engine.shown(key, part, number);
-    Ok(Reply::Number(shown.ok_or(Failure::NoSuchNumber)?))
+    let number = engine.shown(asked).ok_or(Failure::NoSuchNumber)?;
+    Ok(Reply::Number(number))
 }

@@ -11,7 +11,7 @@ use four::Four;
 use kinds::kind::Kind;
 use numbers::count::Count;
 use refusals::Refusal;
-use script::{KindName, Opening};
+use script::{KindName, Opening, Query};
 use solo::solo::{Committed, Figures, Solo};
 use std::alloc::Global;
 
@@ -55,21 +55,21 @@ impl Engine {
     }
 
     // The number that is shown, if there is one.
-    pub fn shown(&self, key: u64, part: u64, number: u64) -> Option<i64>
-        ensures { told_number result ≡ number_told (opened self.now) key part number }
+    pub fn shown(&self, asked: Query) -> Option<i64>
+        ensures { told_number result ≡ number_told (opened self.now) asked.key asked.part asked.number }
     {
         match self {
-            Engine::Counts(solo) => shown(solo, key, part, number),
-            Engine::Fours(solo) => shown(solo, key, part, number),
+            Engine::Counts(solo) => shown(solo, asked),
+            Engine::Fours(solo) => shown(solo, asked),
         }
     }
 }
 
 // A number that an engine of any kind shows. A part or a number of more than 8 bits does not exist.
-fn shown<K: Kind>(solo: &Solo<K>, key: u64, part: u64, number: u64) -> Option<i64>
-    ensures { told_number result ≡ shown_told K.Kind.model (view K.Kind.meaning solo.now) key part number }
+fn shown<K: Kind>(solo: &Solo<K>, asked: Query) -> Option<i64>
+    ensures { told_number result ≡ shown_told K.Kind.model (view K.Kind.meaning solo.now) asked.key asked.part asked.number }
 {
-    let part = u8::try_from(part).ok()?;
-    let number = u8::try_from(number).ok()?;
-    solo.shown(key, part, number)
+    let part = u8::try_from(asked.part).ok()?;
+    let number = u8::try_from(asked.number).ok()?;
+    solo.shown(asked.key, part, number)
 }

@@ -4,3 +4,5 @@
 pub mod desk;
 pub mod engine;
 pub mod serve;
+#[cfg(test)]
+mod tests;

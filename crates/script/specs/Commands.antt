@@ -29,7 +29,7 @@ pub data Request : Type 0 where
 abbrev pub meaning : Command → Request
 meaning (Open o) = opens o.workers o.keys o.first o.kind
 meaning (Run worker text) = runs worker text.now
-meaning (Tally key part number) = shows key part number
+meaning (Tally t) = shows t.key t.part t.number
 
 -- a number in front of a space, with what stands behind that
 abbrev pub leads : List ℕ → Option (ℕ × List ℕ)

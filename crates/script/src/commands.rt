@@ -42,12 +42,20 @@ pub struct Opening {
     pub kind: KindName,
 }
 
+// Which number is asked for: by its record's key, the part and the number in the part.
+#[derive(Clone, Copy)]
+pub struct Query {
+    pub key: u64,
+    pub part: u64,
+    pub number: u64,
+}
+
 // A command of a script. The text of a transaction stands as it is written, with its escapes.
 #[derive(Clone, Copy)]
 pub enum Command<'a> {
     Open(Opening),
     Run { worker: u64, text: &'a [u8] },
-    Tally { key: u64, part: u64, number: u64 },
+    Tally(Query),
 }
 
 // The command that a line spells, none where it is not understood.
@@ -103,7 +111,7 @@ fn tally(words: &[u8]) -> Option<Command<'_>>
     let shown = shown?;
     let (key, part) = key_and_part(tally)?;
     let number = digits(shown)?;
-    Some(Command::Tally { key, part, number })
+    Some(Command::Tally(Query { key, part, number }))
 }
 
 // A key and a part of it, with a point between them.

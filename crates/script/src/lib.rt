@@ -6,6 +6,6 @@ mod cuts;
 mod escapes;
 mod lines;
 
-pub use commands::{Command, KindName, Opening, UnknownKind, parse};
+pub use commands::{Command, KindName, Opening, Query, UnknownKind, parse};
 pub use escapes::{UnescapeError, unescape};
 pub use lines::is_command;
