@@ -1,4 +1,5 @@
 pub mod Canon
+pub mod FaultTexts
 pub mod Forms
 pub mod Listed
 pub mod Reads

@@ -2,7 +2,6 @@
 #![tactic(auto)]
 
 use slips::entry::{Action, Entry};
-use slips::fault::Fault;
 use slips::read;
 use std::io;
 
@@ -83,7 +82,7 @@ fn say(rt: &HostRuntime, text: &str) -> io::Result<()> {
             }
             Ok(())
         }
-        Err(fault) => refuse(rt, fault),
+        Err(fault) => println!(rt; "{fault}"),
     }
 }
 
@@ -96,11 +95,11 @@ fn count(rt: &HostRuntime, text: &[u8]) -> io::Result<()> {
             let n = entries.len();
             println!(rt; "{n} entries")
         }
-        Err(fault) => refuse(rt, fault),
+        Err(fault) => println!(rt; "{fault}"),
     }
 }
 
-// One entry, word by word.
+// One entry in a layout of its own, not as its text has it: with a mark where the verb takes none too.
 fn spell(rt: &HostRuntime, entry: Entry) -> io::Result<()> {
     let Entry { key, part, action } = entry;
     match action {
@@ -111,13 +110,5 @@ fn spell(rt: &HostRuntime, entry: Entry) -> io::Result<()> {
         Action::Change { verb, number, mark } => {
             println!(rt; "  {key}.{part} {verb} {number} mark {mark}")
         }
-    }
-}
-
-// Why a text is not read.
-fn refuse(rt: &HostRuntime, fault: Fault) -> io::Result<()> {
-    match fault {
-        Fault::Size => println!(rt; "size"),
-        Fault::Grammar { entry, byte } => println!(rt; "entry {entry} byte {byte}"),
     }
 }
