@@ -1,5 +1,5 @@
--- Engines whose values are at their start, a text that ran on the engine that is open, and a line that is empty.
-use Rattle.std.proofs.Common.{◌≡◌, ℕ, true, List, [], ◌∷◌, length, pos, None, Ok, sym, refl, ap, ◌∙◌, arith}
+-- Engines whose values are at their start.
+use Rattle.std.proofs.Common.{◌≡◌, ℕ, true, [], pos, None, Ok, sym, ap, ◌∙◌}
 use Rattle.numbers.specs.Counts.{Amount, amount_is, nothing}
 use Rattle.numbers.specs.Leans.{long_is}
 use Rattle.triples.specs.Tens.{tops_is}
@@ -7,7 +7,6 @@ use Rattle.script.specs.declared.commands.KindName.{KindName}
 use Rattle.script.specs.declared.commands.KindName.TheVariants.{Count, Four}
 use Rattle.solo.specs.Rules.{State, opening}
 use Rattle.desk.specs.Engines.{Quad, counts, fours, quad_start, opened_with, opened_as}
-use Rattle.desk.specs.Lines.{unbroken}
 
 module _ (w k f : ℕ) (kind : KindName) where
   pub opened_count : (s : State Amount) (m : Amount) → kind ≡ Count → m.value ≡ 0 → Ok s ≡ opening w k f m true → Ok (counts s) ≡ opened_as w k f kind true
@@ -22,7 +21,3 @@ module _ (w k f : ℕ) (kind : KindName) where
     where
       start : m ≡ quad_start
       start = λ i. (amount_is {x = m.0} {y = quad_start.0} count i, (long_is {x = m.1.0} {y = quad_start.1.0} lean i, (last i, tops_is {x = m.1.1.1} {y = quad_start.1.1.1} ten i)))
-
-pub empty_unbroken : (line : List ℕ) → length line ≡ 0 → line ≡ unbroken line
-empty_unbroken [] e = refl
-empty_unbroken (c ∷ cs) e = absurd (omega arith)

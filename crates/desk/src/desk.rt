@@ -32,6 +32,7 @@ impl Desk {
     }
 
     // Does what a command line asks for, and counts it.
+    #[tactic(auto, using(crate::proofs::Kept::kept))]
     pub fn answer(&mut self, heap: Global, line: &[u8]) -> Result<Reply, Failure>
         ensures replies { Replies (engine_of self.old.engine) line.now (told result) (engine_of self.new.engine) }
         ensures kept { changes (told result) ≡ false → engine_of self.new.engine ≡ engine_of self.old.engine }

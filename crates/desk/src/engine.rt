@@ -24,6 +24,7 @@ pub enum Engine {
 
 impl Engine {
     // An engine of a kind with its values at their start.
+    #[tactic(auto, using(crate::proofs::Starts::opened_count))]
     pub fn open(heap: Global, opening: Opening) -> Result<Engine, Refusal>
         ensures { coded opened result ≡ opened_as opening.workers opening.keys opening.first opening.kind (is_ok result) }
     {

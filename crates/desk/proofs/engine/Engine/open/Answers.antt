@@ -1,11 +1,7 @@
 -- What `open` ensures, where the search leaves it.
-use Rattle.desk.specs.Engines.{amount_of, quad_of}
-use Rattle.desk.proofs.Starts.{opened_count, opened_four}
+use Rattle.desk.specs.Engines.{quad_of}
+use Rattle.desk.proofs.Starts.{opened_four}
 use Rattle.desk.proofs.engine.Engine.open.Goals as goal
-
-pub returns-in_ok-solo-in-Count : goal.returns-in_ok-solo-in-Count
-returns-in_ok-solo-in-Count c =
-    opened_count c.args.opening.workers c.args.opening.keys c.args.opening.first c.args.opening.kind _ (amount_of c.new.result) c.in-Count.is c.new.ensures c.in_ok-solo-in-Count.ensures
 
 pub returns-in_ok-solo-in-Four : goal.returns-in_ok-solo-in-Four
 returns-in_ok-solo-in-Four c =
