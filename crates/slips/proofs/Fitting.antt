@@ -8,7 +8,7 @@ use Rattle.std.proofs.ByRecursion.{All-append, All-weaker}
 use Rattle.std.proofs.lemmas.List.{append-nil, append_assoc, length-append, length-take-le, take_all, take-take}
 use Rattle.std.proofs.lemmas.Str.Parse.{digit_from_value}
 use Rattle.words.specs.Numbers.{keyed, IsKey}
-use Rattle.words.specs.Plain.{Plain}
+use Rattle.words.specs.Words.{Plain}
 use Rattle.words.proofs.Spelled.{own}
 use Rattle.kinds.specs.declared.operation.Verb.TheVariants.{Put, Add, Max, Min, Last, Top}
 use Rattle.slips.specs.Canon.{marked, heading, headed, figures, spell, Ranged, InRange, spaced, line}

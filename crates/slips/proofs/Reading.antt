@@ -4,8 +4,7 @@ use Rattle.std.specs.List.{AllByRecursion}
 use Rattle.std.proofs.ByRecursion.{All-append}
 use Rattle.std.proofs.lemmas.List.{append-nil, append_assoc, append_cancel_left, length-append, take_at, drop_more, drop_at, drop-drop, length-drop}
 use Rattle.words.specs.Numbers.{keyed, Keyed}
-use Rattle.words.specs.Plain.{Plain, Stops}
-use Rattle.words.specs.Words.{bytes_of, rest_of, stop, WordAt, Spaced, Behind, Ending}
+use Rattle.words.specs.Words.{bytes_of, rest_of, stop, Plain, Stops, WordAt, Spaced, Behind, Ending}
 use Rattle.words.specs.declared.word.Word.{Word}
 use Rattle.slips.specs.Canon.{heading, headed, figures, spell, InRange, spaced, line}
 use Rattle.slips.specs.Forms.{tail, forms, HaveForms, Acts, Misses, EntryAt, WrongAt}

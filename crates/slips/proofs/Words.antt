@@ -3,7 +3,7 @@ use Rattle.std.proofs.Common.{◌≡◌, ℕ, ◌+◌, ◌<◌, Bool, true, fals
 use Rattle.std.specs.List.{AllByRecursion}
 use Rattle.std.proofs.lemmas.List.{append_assoc, length-append}
 use Rattle.std.proofs.lemmas.Bool.{ne_eqb}
-use Rattle.words.specs.Plain.{Plain, Stops}
+use Rattle.words.specs.Words.{Plain, Stops}
 use Rattle.slips.specs.Canon.{spaced}
 use Rattle.slips.specs.Wrong.{onto, words, start}
 

@@ -1,6 +1,6 @@
 -- A word that a text has at a place.
-use Rattle.std.specs.Prelude.{◌≡◌, ℕ, ◌+◌, ◌<◌, ◌⊎◌, List, [], ◌++◌, length, drop, Ok, Err, Result, slice_index}
-use Rattle.words.specs.Plain.{Plain, Stops}
+use Rattle.std.specs.Prelude.{◌≡◌, ℕ, ◌+◌, ◌<◌, ◌⊎◌, List, [], ◌∷◌, ◌++◌, length, drop, Ok, Err, Result, ◌≢◌, slice_index}
+use Rattle.std.specs.List.{AllByRecursion}
 use Rattle.words.specs.declared.word.Word.{Word}
 
 abbrev pub bytes_of : Word → List ℕ
@@ -12,6 +12,15 @@ rest_of w = w.rest.now
 
 abbrev pub stop : Word → ℕ
 stop w = w.at + length (bytes_of w)
+
+-- bytes that no space and no ending byte is among
+abbrev pub Plain : List ℕ → Type 0
+Plain w = AllByRecursion (λ c. (c ≢ 32) × (c ≢ 10)) w
+
+-- no byte, or first a space or an ending byte
+abbrev pub Stops : List ℕ → Type 0
+Stops [] = Unit {0}
+Stops (c ∷ cs) = (c ≡ 32) ⊎ (c ≡ 10)
 
 -- the longest plain bytes that a text begins with at a place
 pub record WordAt (text : List ℕ) (at : ℕ) (w : Word) : Type 0 where

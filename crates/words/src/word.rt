@@ -1,6 +1,5 @@
 // The words of a text, each with its place.
-ghost use Rattle.std.specs.Prelude.{◌+◌, ◌^◌, ◌<◌, ◌≤◌, length, take, drop};
-ghost use Rattle.words.specs.Plain.{Plain, Stops};
+ghost use Rattle.std.specs.Prelude.{◌+◌, ◌^◌, ◌<◌, length};
 
 // Bytes of a text, the place where they begin, and the text behind them.
 #[derive(Clone, Copy)]
@@ -12,8 +11,8 @@ pub struct Word<'a> {
 }
 
 impl<'a> Word<'a> {
-    ghost use Rattle.std.specs.Prelude.{◌≡◌, ◌+◌, ◌^◌, ◌<◌, min, length, drop};
-    ghost use Rattle.words.specs.Words.{WordAt, Behind, Ending, stop};
+    ghost use Rattle.std.specs.Prelude.{◌≡◌, ◌+◌, ◌^◌, ◌<◌, ◌≤◌, min, length, take, drop};
+    ghost use Rattle.words.specs.Words.{WordAt, Behind, Ending, stop, Plain, Stops};
 
     // The bytes at `at`, up to a space, an ending byte or the end of the text; a place beyond the end is taken as the end.
     pub fn at(text: &'a [u8], at: usize) -> Word<'a>
@@ -62,18 +61,18 @@ impl<'a> Word<'a> {
         requires { at + length text.now < 2 ^ 64 }
         ensures { WordAt text.now at result }
     {
-        let (bytes, rest) = text.split_at(plain_bytes(text));
+        let (bytes, rest) = text.split_at(Word::plain_bytes(text));
         Word { bytes, at, rest }
     }
-}
 
-// How many bytes stand before the first space or ending byte, or all where there is none.
-fn plain_bytes(text: &[u8]) -> usize
-    ensures within { result ≤ length text.now }
-    ensures plain { Plain (take result text.now) }
-    ensures stops { Stops (drop result text.now) }
-{
-    text.iter()
-        .position(|byte| *byte == b' ' || *byte == b'\n')
-        .unwrap_or(text.len())
+    // How many bytes stand before the first space or ending byte, or all where there is none.
+    fn plain_bytes(text: &[u8]) -> usize
+        ensures within { result ≤ length text.now }
+        ensures plain { Plain (take result text.now) }
+        ensures stops { Stops (drop result text.now) }
+    {
+        text.iter()
+            .position(|byte| *byte == b' ' || *byte == b'\n')
+            .unwrap_or(text.len())
+    }
 }
