@@ -15,7 +15,7 @@ use script::{KindName, Opening, Query};
 use solo::solo::{Committed, Figures, Solo};
 use std::alloc::Global;
 
-// An engine of either kind.
+// An engine of either kind. Its calls go by cases: a `dyn` engine would be made here and handed out, which the gate refuses.
 #[derive(Drop)]
 pub enum Engine {
     Counts(Solo<Count>),

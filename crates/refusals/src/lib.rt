@@ -36,7 +36,7 @@ pub enum Refusal {
 }
 
 impl Refusal {
-    // The refusal's number, if it has one.
+    // The refusal's number, if it has one: callers are told of a refusal by number, so the enum gives it.
     pub fn number(&self) -> Option<u8>
         ensures { result ≡ slice_get (code self.now) 0 }
     {

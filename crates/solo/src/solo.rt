@@ -31,6 +31,7 @@ pub struct Figures {
 }
 
 // The values, how many workers there are, and the last place that was given.
+// Clauses see it by `view` at the meanings of `K`: an `impl Model` may not speak of a bound's members.
 #[derive(Drop)]
 pub struct Solo<K> {
     workers: u8,

@@ -38,6 +38,7 @@ impl Part for Last {
 
     const NUMBERS: u8 = 4;
 
+    // Taken where it splits, as in `Ten`; a default of the trait would have to hold of every part.
     fn takes(verb: Verb, _argument: Argument) -> bool {
         Last::splits(verb)
     }

@@ -106,6 +106,7 @@ impl Part for Ten {
 
     const NUMBERS: u8 = 31;
 
+    // Taken where it splits, as in `Last`; a default of the trait would have to hold of every part.
     fn takes(verb: Verb, _argument: Argument) -> bool {
         Ten::splits(verb)
     }
@@ -148,6 +149,7 @@ impl Part for Ten {
 
 // Puts `new` into its place among the first `len`; of one order the greater stays, and beyond ten the lowest leaves.
 // Returns how many there are then. It takes a `Ten`'s fields: the orders fall again only once `new` has its place.
+// The insertions of the library's vectors push none out at the end, so one pass finds the place and moves the rest.
 fn insert(triples: &mut [Triple; 10], len: usize, new: Triple) -> usize
     requires few { len ≤ 10 }
     requires falls { T (falling by_order (take len triples.old)) }
