@@ -82,7 +82,7 @@ module _ {X : Type 0} {rank : X → X → Ordering} {better : X → X → X} (rk
 
   pub best_more : (n : ℕ) (a : X) (seen l : List X) → Best rank better n seen l → Best rank better n (a ∷ seen) (kept rank better n l a)
   best_more n a seen l b =
-      let falls : T (falling rank (ins a l)) = falling_ins rank better rk.total rk.better_alike a l b.falls in
+      let falls : T (falling rank (ins a l)) = falling_ins rank better rk.total.antisymm rk.total.congr rk.better_alike a l b.falls in
       record {
         few = omega (arith, length-take n (ins a l));
         falls = falling_take rank n (ins a l) falls;

@@ -3,7 +3,6 @@ use Rattle.std.specs.Prelude.{◌≡◌, ℕ, zero, suc, Bool, true, false, ◌&
 use Rattle.std.specs.declared.cmp.Ordering.TheVariants.{Less, Equal, Greater}
 use Rattle.std.specs.declared.cmp.Ordering.{Ordering}
 use Rattle.std.proofs.Common.{sym, ap, subst, ◌∙◌}
-use Rattle.std.specs.Cmp.{IsTotalOrder}
 use Rattle.std.specs.Ordering.{is_gt, ordering_reverse}
 
 -- one of three, by an ordering
@@ -57,11 +56,12 @@ module _ {X : Type 0} (rank : X → X → Ordering) where
       both (above rank x (take m xs)) _ (above_take m x xs falls.0) (falling_take m xs falls.1)
 
 module _ {X : Type 0} (rank : X → X → Ordering) (better : X → X → X)
-    (o : IsTotalOrder rank)
+    (flip : (x y : X) → rank x y ≡ ordering_reverse (rank y x))
+    (alike : (x y z : X) → rank x y ≡ Equal → rank x z ≡ rank y z)
     (better_alike : (x y z : X) → rank x y ≡ Equal → rank (better x y) z ≡ rank x z)
   where
     higher : (z a : X) → rank a z ≡ Less → T (is_gt (rank z a))
-    higher z a e = subst (λ r. T (is_gt r)) (sym (o.antisymm z a ∙ ap ordering_reverse e)) tt
+    higher z a e = subst (λ r. T (is_gt r)) (sym (flip z a ∙ ap ordering_reverse e)) tt
 
     above_ins : (z a : X) (l : List X) → rank a z ≡ Less → T (above rank z l) → T (above rank z (inserted rank better a l))
     above_ins z a [] e t = higher z a e
@@ -74,7 +74,7 @@ module _ {X : Type 0} (rank : X → X → Ordering) (better : X → X → X)
 
     above_better : (a x : X) (l : List X) → rank a x ≡ Equal → T (above rank x l) → T (above rank (better a x) l)
     above_better a x [] e t = tt
-    above_better a x (y ∷ l) e t = subst (λ r. T (is_gt r)) (sym (better_alike a x y e ∙ o.congr a x y e)) t
+    above_better a x (y ∷ l) e t = subst (λ r. T (is_gt r)) (sym (better_alike a x y e ∙ alike a x y e)) t
 
     pub falling_ins : (a : X) (l : List X) → T (falling rank l) → T (falling rank (inserted rank better a l))
     falling_ins a [] t = tt

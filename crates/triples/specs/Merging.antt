@@ -57,4 +57,4 @@ module _ {X : Type 0} {rank : X → X → Ordering} {better : X → X → X} (rk
       enough k (suc m) w (top l y) (omega arith) falls.1 (over_top rk n m y w l falls.0 (omega arith) f) (take-take n n (ins y l) (omega arith))
 
   pub top_merge : (a : X) (w l : List X) → T (falling rank w) → take n l ≡ l → fold top l (top w a) ≡ top (fold top l w) a
-  top_merge a w l t c = enough n 0 (ins a w) l (omega arith) (falling_ins rank better rk.total rk.better_alike a w t) (over_none rk (ins a w) l) c ∙ after_ins a w l
+  top_merge a w l t c = enough n 0 (ins a w) l (omega arith) (falling_ins rank better rk.total.antisymm rk.total.congr rk.better_alike a w t) (over_none rk (ins a w) l) c ∙ after_ins a w l

@@ -53,7 +53,7 @@ better_alike x y z e = cond_both (lower x y) y x (λ w. by_order w z ≡ by_orde
 pub top_falls : (x : Tops) (e : Triple) → T (falling by_order (topped x.triples e))
 top_falls x e =
     falling_take by_order 10 (inserted by_order better e x.triples)
-    (falling_ins by_order better order_total better_alike e x.triples x.falls)
+    (falling_ins by_order better order_total.antisymm order_total.congr better_alike e x.triples x.falls)
 
 -- the same of a meaning
 abbrev pub top : Tops → Triple → Tops
