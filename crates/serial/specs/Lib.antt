@@ -1,4 +1,4 @@
 pub mod Alone
-pub mod Answers
+pub mod Readings
 pub mod Places
 pub mod Serial

@@ -1,9 +1,9 @@
 // What a run gave its owner, with no memory of its own.
 ghost use Rattle.std.specs.Prelude.{◌≡◌};
-ghost use Rattle.serial.specs.Answers.{answers_of};
 
 use arrayvec::ArrayVec;
 use slips::entries::MOST;
+use std::marker::Model;
 
 // The answers of `show` entries in their order: an entry gives one at most.
 pub(crate) type Answers = ArrayVec<i64, MOST>;
@@ -15,10 +15,18 @@ pub struct Readings {
     pub(crate) skipped: Option<usize>,
 }
 
+impl Model for Readings {
+    ghost use Rattle.serial.specs.Readings.{Given};
+
+    ghost Value = { Given };
+
+    ghost view = { λ r. record { answers = r.answers.items; skipped = r.skipped } };
+}
+
 impl Readings {
     // The answers in their order.
     pub fn answers(&self) -> &[i64]
-        ensures { result.now ≡ answers_of self.now }
+        ensures { result.now ≡ self.now.answers }
     {
         self.answers.as_slice()
     }

@@ -3,7 +3,6 @@ ghost use Rattle.std.specs.Prelude.{◌≡◌, ◌<◌, not, ◌++◌, map};
 ghost use Rattle.arrayvec.specs.ArrayVec.{array_vec_len};
 ghost use Rattle.slips.specs.Listed.{entries_of};
 ghost use Rattle.serial.specs.Alone.{RunsAlone, tells, falls_short};
-ghost use Rattle.serial.specs.Answers.{answers_of};
 ghost use Rattle.serial.specs.Places.{modify};
 ghost use Rattle.serial.specs.Serial.{reads, after, serial};
 
@@ -16,7 +15,7 @@ use slips::entry::{Action, Entry};
 // Runs the entries in order for one worker. The first `need` below its bound skips the rest.
 // Each clause sees the values through their meanings: a model of a struct around them may not speak of what `K` means.
 pub fn run_alone<K: Kind>(values: &mut [K], worker: u8, entries: &Entries) -> Readings
-    ensures { record { values = map K.Kind.meaning values.new; answers = answers_of result; skipped = result.skipped } ≡ serial K.Kind.model worker 0 (entries_of entries.now) (map K.Kind.meaning values.old) }
+    ensures { record { values = map K.Kind.meaning values.new; answers = result.answers; skipped = result.skipped } ≡ serial K.Kind.model worker 0 (entries_of entries.now) (map K.Kind.meaning values.old) }
 {
     let mut answers = Answers::new();
     let all = entries.as_slice();
