@@ -2,7 +2,7 @@
 use Rattle.protocol.proofs.Base.{◌≡◌, refl, sym, ap, subst, ◌∙◌, Bool, true, false, cond, ◌||◌, List, [], ◌∷◌, ◌++◌, append_assoc, append-nil, ℕ, zero, suc, ◌+◌, ◌≤◌, arith, leb, ℤ, length, take, drop, length-take, take-append-drop, take_all, none-some, same_Some, All-weaker, leb-true, not_from_false, false≢true, Option, Some, None, option_is_some, AllByRecursion, nth}
 use Rattle.protocol.specs.Rules.{Model, Action, Entry, tells, falls_short, applied, short_at, Alone, ran as alone_ran, peek, Ran, after, serial, Transaction, verb_of, changes, looks}
 use Rattle.serial.proofs.Alone.{short_idle, runs_alone}
-use Rattle.serial.proofs.Steps.{follow, before_goes, before_stops}
+use Rattle.serial.proofs.Steps.{follow}
 use Rattle.protocol.proofs.Places.{some_none, modify_agrees}
 use Rattle.protocol.specs.State.{ran}
 
@@ -31,11 +31,7 @@ module _ {M : Type 0} where
 module _ {M : Type 0} (k : Model M) (w : ℕ) where
   serial_first : (i : ℕ) (e : Entry) (es : List Entry) (vs : List M)
       → serial k w i (e ∷ es) vs ≡ one (falls_short k e e.action vs) i (after k w e e.action vs) (tells k e e.action vs) (serial k w (suc i) es (after k w e e.action vs))
-  serial_first i e es vs = go (falls_short k e e.action vs) refl
-    where
-      go : (b : Bool) → falls_short k e e.action vs ≡ b → serial k w i (e ∷ es) vs ≡ one b i (after k w e e.action vs) (tells k e e.action vs) (serial k w (suc i) es (after k w e e.action vs))
-      go true h = before_stops k w i e vs [] (serial k w (suc i) es (after k w e e.action vs)) e.action h
-      go false h = before_goes k w i e vs [] (serial k w (suc i) es (after k w e e.action vs)) e.action h
+  serial_first i e es vs = grind arith
 
   -- what an entry tells goes by the record that it looks at
   tells_agrees : (e : Entry) (a : Action) (us vs : List M) → (option_is_some (verb_of a) ≡ false → nth us e.key ≡ nth vs e.key) → tells k e a us ≡ tells k e a vs
@@ -104,15 +100,7 @@ module _ {M : Type 0} (k : Model M) (w : ℕ) where
 
   pub gives_more : (es : List Entry) (e : Entry) (vs : List M) (zs : List ℤ) → Gives es vs zs None
       → Gives (es ++ (e ∷ [])) vs (zs ++ tells k e e.action (applied k w es vs)) (cond (falls_short k e e.action (applied k w es vs)) (Some (length es)) None)
-  gives_more es e vs zs g =
-      let us = applied k w es vs in
-      let n : 0 + length es ≡ length es = omega arith in
-      let p = serial_more 0 es (e ∷ []) vs g.1 ∙ ap (λ m. follow (serial k w 0 es vs).answers (serial k w m (e ∷ []) us)) n in
-      let q = serial_first (length es) e [] us in
-      let r = last (falls_short k e e.action us) (length es) (after k w e e.action us) (tells k e e.action us) in (
-        ap (λ (x : Ran M). x.answers) p ∙ ap (λ (x : Ran M). (serial k w 0 es vs).answers ++ x.answers) q ∙ (λ i. g.0 i ++ r.0 i),
-        ap (λ (x : Ran M). x.skipped) p ∙ ap (λ (x : Ran M). x.skipped) q ∙ r.1,
-      )
+  gives_more es e vs zs g = grind (arith, serial_more)
 
   -- the `need` that skips the rest changes nothing
   short_last : (j : ℕ) (es : List Entry) (vs : List M) → short_at k w j es vs ≡ true → length es ≤ suc j → applied k w (take j es) vs ≡ applied k w es vs

@@ -1,5 +1,5 @@
 -- Who owns which record: what each stage holds, and what a step locks and frees.
-use Rattle.protocol.proofs.Base.{cases_eq, inl, inr, ◌≡◌, refl, sym, ◌∙◌, Bool, true, ◌&&◌, List, ℕ, suc, ◌<◌, arith, leb, ltb, length, get_or, get_or-map, length-map, tells, Option, Some, None}
+use Rattle.protocol.proofs.Base.{◌≡◌, refl, sym, ◌∙◌, Bool, true, ◌&&◌, List, ℕ, suc, ◌<◌, arith, leb, ltb, length, get_or, get_or-map, length-map, tells, Option, Some, None}
 use Rattle.protocol.specs.Rules.{Model, Entry, modify, SplitItem, Stage, Running, Stamp, Transaction, Row, stamp_at, at_stage, after_running, after_writing, after_check, owned_by, lock_for, free_own, stamped, one_more, settled, Moved, put_aside, put_back, Event, writes, holds_at, holds, aims_at, aims}
 use Rattle.protocol.proofs.Doing.{Does, rests, reads, strays_off, clashes, locks, places, writes_on, shards}
 use Rattle.protocol.proofs.Places.{length_modify, get_or_modify, get_or_modify_other}
@@ -9,10 +9,7 @@ use Rattle.protocol.specs.State.{ran}
 -- what holds of a place of a list where one element was changed
 modify_cases : {A : Type 0} (P : A → Type 0) (xs : List A) (i j : ℕ) (f : A → A) (d : A) → j < length xs → (j ≡ i → P (f (get_or xs j d))) → ((j ≡ i → ⊥) → P (get_or xs j d))
     → P (get_or (modify i f xs) j d)
-modify_cases P xs i j f d l here there = elim (cases_eq j i) [
-  | inl e ↦ rw (← e, get_or_modify xs j f d l) (here e)
-  | inr n ↦ rw (get_or_modify_other xs i j f d n) (there n)
-]
+modify_cases P xs i j f d l here there = grind (arith, get_or_modify, get_or_modify_other)
 
 -- ---- what the next stage holds
 

@@ -1,6 +1,6 @@
 -- The operations of entries on one key, and what they make of its value.
-use Rattle.protocol.proofs.Base.{◌≡◌, refl, sym, ap, ◌∙◌, Bool, true, false, cond, List, [], ◌∷◌, ◌++◌, append_assoc, ℕ, arith, eqb, length, take, drop, take-append-drop, nth_drop, drop-drop, eqb-true, eqb-false, cond_both, tells, Option, Some, None, option_is_some, mapped, AllByRecursion, nth}
-use Rattle.protocol.specs.Rules.{Model, Operation, Action, Show, Need, Change, Entry, applied, modify, after, SplitItem, verb_of, changes, action_ops, ops_of, ops_on, apply_all, is_split, sharded, next_shard, writes}
+use Rattle.protocol.proofs.Base.{◌≡◌, refl, sym, ap, ◌∙◌, true, false, cond, List, [], ◌∷◌, ◌++◌, append_assoc, ℕ, arith, eqb, length, take, drop, take-append-drop, nth_drop, drop-drop, tells, Option, Some, None, mapped, AllByRecursion, nth}
+use Rattle.protocol.specs.Rules.{Model, Operation, Action, Entry, applied, after, SplitItem, changes, action_ops, ops_of, ops_on, apply_all, is_split, sharded, next_shard, writes}
 use Rattle.protocol.proofs.Finding.{found, not_found}
 use Rattle.protocol.proofs.Places.{nth_modify, nth_modify_other, length_modify, mapped_id, mapped_mapped, mapped_same}
 
@@ -13,14 +13,9 @@ module _ (w key : ℕ) where
   ops_on_append [] fs = refl
   ops_on_append (e ∷ es) fs = ap (λ r. op_on e ++ r) (ops_on_append es fs) ∙ sym (append_assoc (op_on e) (ops_on w key es) (ops_on w key fs))
 
-  idle_action : (part : ℕ) (a : Action) → option_is_some (verb_of a) ≡ false → action_ops w part a ≡ []
-  idle_action part a h = grind arith
-
   -- an entry that changes nothing, or another key
   pub no_op : (e : Entry) → (changes e ≡ true → e.key ≡ key → ⊥) → op_on e ≡ []
-  no_op e h =
-      cond_both (eqb e.key key) (ops_of w e) [] (λ os. os ≡ [])
-      (λ t. idle_action e.part e.action (grind (arith, tells, h))) (λ t. refl)
+  no_op e h = grind arith
 
   module _ (ls : List SplitItem) where
     -- a key that is not split and that no entry writes has no operation
@@ -76,17 +71,8 @@ module _ {M : Type 0} (k : Model M) where
   mapped_append os ps o = mapped_mapped (apply_all k os) (apply_all k ps) o ∙ mapped_same _ _ (λ x. sym (apply_append os ps x)) o
 
   module _ (w key : ℕ) where
-    idle_at : (b : Bool) (o : Option M) → o ≡ mapped (apply_all k (cond b [] [])) o
-    idle_at b o = grind (arith, mapped_none o)
-
     after_at : (e : Entry) (a : Action) (vs : List M) → nth (after k w e a vs) key ≡ mapped (apply_all k (cond (eqb e.key key) (action_ops w e.part a) [])) (nth vs key)
-    after_at e (Show n) vs = idle_at (eqb e.key key) (nth vs key)
-    after_at e (Need n b) vs = idle_at (eqb e.key key) (nth vs key)
-    after_at e (Change v n m) vs =
-        let f = (k.rule e.part v).apply (record { number = n; worker = w; mark = m }) in
-        cond_both (eqb e.key key) (action_ops w e.part (Change v n m)) [] (λ os. nth (modify e.key f vs) key ≡ mapped (apply_all k os) (nth vs key))
-        (λ t. let d = eqb-true e.key key t in ap (λ i. nth (modify i f vs) key) d ∙ nth_modify vs key f)
-        (λ t. nth_modify_other vs e.key key f (λ d. eqb-false e.key key t (sym d)) ∙ sym (mapped_none (nth vs key)))
+    after_at e a vs = grind (arith, nth_modify, nth_modify_other)
 
     -- each value has had its own operations
     pub applied_at : (es : List Entry) (vs : List M) → nth (applied k w es vs) key ≡ mapped (apply_all k (ops_on w key es)) (nth vs key)

@@ -1,5 +1,6 @@
 -- What is owed to a record: by whom, and what stays owed where a turn changes one row.
-use Rattle.protocol.proofs.Base.{◌≡◌, refl, sym, ap, subst, ◌∙◌, false, List, [], ◌++◌, append-nil, append_assoc, ◌⊎◌, inl, inr, ℕ, zero, suc, ◌≤◌, ◌<◌, arith, cases_eq, cases_Bool, length, Option, Some, AllByRecursion, mapped, nth}
+use Rattle.std.proofs.Common.{rules}
+use Rattle.protocol.proofs.Base.{◌≡◌, refl, sym, ap, subst, ◌∙◌, false, List, [], ◌++◌, append-nil, append_assoc, ◌⊎◌, inl, inr, ℕ, zero, suc, ◌≤◌, ◌<◌, arith, cases_eq, length, Option, Some, AllByRecursion, mapped, nth}
 use Rattle.protocol.specs.Rules.{Model, Operation, SplitItem, Stamp, Transaction, Row, Shape, State, row_at, stamp_at, apply_all, split_in, is_split, shard_at, Event, World, holds}
 use Rattle.protocol.proofs.Frames.{after, each_row, moves_row}
 use Rattle.protocol.proofs.Invariant.{Past, Ready, HandOk, MergedOk, pending, owed, gathered, ValuesOk, ideal, Kept, Inv}
@@ -58,13 +59,7 @@ module _ {M : Type 0} (k : Model M) (sh : Shape) (start : List M) (x : World M) 
 
   -- what a worker owes to a record that is not split, and that it has not locked
   pub unlocked_owes : (key w : ℕ) → key < sh.keys → w < sh.workers → is_split ls key ≡ false → ((stamp_at s.stamps key).owner ≡ Some w → ⊥) → owed k sh s ops key w ≡ []
-  unlocked_owes key w l v free not_own =
-      let a = inv.kept.values.unsplit w key v free in
-      let locks = (inv.sound.locks key w (omega (arith, inv.kept.sized.stamps_len))).1 in
-      elim (cases_Bool (holds ls (row_at s.rows w).current key)) [
-        | inl h ↦ absurd (not_own (locks h))
-        | inr h ↦ let b = held_pending k sh ls w key (row_at s.rows w).current free h in cc
-      ]
+  unlocked_owes key w l v free not_own = grind (arith, held_pending)
 
   module _ (w ticket place : ℕ) (ss : List Stamp) (r : Row) (new : List Event) (inside : w < sh.workers) where
     abbrev x' : World M
@@ -91,9 +86,7 @@ module _ {M : Type 0} (k : Model M) (sh : Shape) (start : List M) (x : World M) 
     -- what each worker owes then, if the shards of the others hold what they held
     pub owes_then : (held : ℕ → ℕ → List Operation) (key : ℕ) → ((j : ℕ) → (j ≡ w → ⊥) → held j key ≡ ops j key) → (j : ℕ)
         → ((j ≡ w) × (owed k sh x'.state held key j ≡ held w key ++ pending k sh ls w key r.current)) ⊎ ((j ≡ w → ⊥) × (owed k sh s ops key j ≡ owed k sh x'.state held key j))
-    owes_then held key same = each
-        (λ j (q : Row). ((j ≡ w) × (held j key ++ pending k sh ls j key q.current ≡ held w key ++ pending k sh ls w key r.current)) ⊎ ((j ≡ w → ⊥) × (owed k sh s ops key j ≡ held j key ++ pending k sh ls j key q.current)))
-        (inl (refl, refl)) (λ j d. inr (d, ap (λ os. os ++ pending k sh ls j key (row_at s.rows j).current) (sym (same j d))))
+    owes_then held key same j = search rules
 
     -- where the worker owes what it owed, so do all
     pub owes_still : (key : ℕ) → pending k sh ls w key r.current ≡ pending k sh ls w key (row_at s.rows w).current

@@ -52,8 +52,7 @@ counting_more first n = sym (map-id (counting first (suc n))) ∙ ap (λ m. map 
 
 -- a list that counts up, with one more
 counted : {A : Type 0} (f : A → ℕ) (first : ℕ) (xs : List A) (x : A) → map f xs ≡ counting first (length xs) → f x ≡ first + length xs → map f (xs ++ x ∷ []) ≡ counting first (length (xs ++ x ∷ []))
-counted f first xs x h e =
-    map_push f xs x ∙ (λ i. h i ++ e i ∷ []) ∙ sym (counting_more first (length xs)) ∙ ap (counting first) (sym (length_push xs x ∙ add-one (length xs)))
+counted f first xs x h e = grind (arith, map_push, counting_more, length_push)
 
 module _ {M : Type 0} (k : Model M) where
   values_append : (ps qs : List Placing) (vs : List M) → values_by k (ps ++ qs) vs ≡ values_by k qs (values_by k ps vs)

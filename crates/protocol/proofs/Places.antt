@@ -1,5 +1,5 @@
 -- Lists by place: one element changed, the front, and elements of joined lists.
-use Rattle.protocol.proofs.Base.{nth_getD, nth_past, get_or_past, length-take, get_or_from_slice_get, take-suc, drop-cons, ◌≡◌, refl, sym, ap, ◌∙◌, List, [], ◌∷◌, ◌++◌, ◌⊎◌, inl, inr, ℕ, zero, suc, ◌<◌, arith, length, get_or, set, take, drop, none-some, same_Some, nth_within, nth_left, get_or-set_same, get_or-set_other, cases_eq, Option, Some, None, mapped, AllByRecursion, nth}
+use Rattle.protocol.proofs.Base.{nth_getD, nth_past, get_or_past, length-take, get_or_from_slice_get, take-suc, drop-cons, ◌≡◌, refl, sym, ap, ◌∙◌, List, [], ◌∷◌, ◌++◌, ◌⊎◌, inl, inr, ℕ, zero, suc, ◌<◌, arith, length, get_or, set, take, drop, none-some, same_Some, nth_within, nth_left, get_or-set_same, get_or-set_other, Option, Some, None, mapped, AllByRecursion, nth}
 use Rattle.protocol.specs.Rules.{modify}
 
 module _ {A : Type 0} where
@@ -82,10 +82,7 @@ module _ {A : Type 0} where
 
   -- what holds of every place where one element is new
   pub set_cases : (P : ℕ → A → Type 0) (xs : List A) (w : ℕ) (r d : A) → w < length xs → P w r → ((j : ℕ) → (j ≡ w → ⊥) → P j (get_or xs j d)) → (j : ℕ) → P j (get_or (set xs w r) j d)
-  set_cases P xs w r d l here there j = elim (cases_eq j w) [
-    | inl e ↦ rw e (rw (get_or-set_same xs w r d l) here)
-    | inr e ↦ rw (get_or-set_other xs w j r d e) (there j e)
-  ]
+  set_cases P xs w r d l here there j = grind (arith, get_or-set_same, get_or-set_other)
 
   pub all_both : (P Q : A → Type 0) (xs : List A) → AllByRecursion P xs → AllByRecursion Q xs → AllByRecursion (λ x. P x × Q x) xs
   all_both P Q [] p q = tt

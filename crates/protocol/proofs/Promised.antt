@@ -1,8 +1,9 @@
 -- The promise, from what holds of every world that turns lead to.
-use Rattle.protocol.proofs.Base.{◌≡◌, refl, sym, ap, subst, ◌∙◌, Bool, true, cond, not, List, [], ◌∷◌, map, inl, inr, ℕ, zero, suc, ◌+◌, ◌≤◌, ◌<◌, arith, eqb, ℤ, length, take, length-take, none-some, sum_by-cons, get_or-le-sum_by, cases_order, and_parts, eqb-true, eq-eqb, not-true, false≢true, tells, Option, Some, None, Result, Ok, Err, counting, option_is_some, mapped, sum_by, nth}
-use Rattle.protocol.specs.Rules.{Model, Laws, Entry, ran as alone_ran, Outcome, Committed, Conflict, TurnedAway, Phase, Joined, Stage, Running, Locking, Checking, Writing, Sharding, Ended, Stamp, outcome_code, first_of, Transaction, Shape, State, idle, row_at, stamp_at, end_of, place_in, place_of, apply_all, split_in, is_split, Call, Take, Collect, Gave, Taking, Placing, Event, Taken, Placed, outcome_of, has_ended, answers_of, outcome_told, quiet, refuse_open, tests, turn_by, turn, taking_in, placing_in, placings, takings, World, alone, values_by, times_placed, RightlyTold, Kept, Promise, in_row, in_hand}
+use Rattle.std.proofs.Common.{rules}
+use Rattle.protocol.proofs.Base.{◌≡◌, refl, sym, ap, ◌∙◌, Bool, true, cond, not, List, [], ◌∷◌, map, inl, inr, ℕ, zero, suc, ◌+◌, ◌≤◌, ◌<◌, arith, eqb, ℤ, length, take, length-take, none-some, sum_by-cons, get_or-le-sum_by, cases_order, and_parts, eq-eqb, not-true, tells, Option, Some, None, Result, Ok, counting, option_is_some, mapped, sum_by, nth}
+use Rattle.protocol.specs.Rules.{Model, Laws, Entry, ran as alone_ran, Outcome, Committed, Conflict, TurnedAway, Phase, Joined, Stage, Ended, Stamp, outcome_code, Transaction, Shape, State, idle, row_at, stamp_at, end_of, place_in, place_of, apply_all, split_in, is_split, Call, Take, Collect, Gave, Taking, Placing, Event, Taken, Placed, quiet, refuse_open, turn, taking_in, placing_in, placings, takings, World, alone, values_by, times_placed, RightlyTold, Kept, Promise, in_row, in_hand}
 use Rattle.serial.proofs.Alone.{runs_alone}
-use Rattle.protocol.proofs.Allowed.{none_is, allowed}
+use Rattle.protocol.proofs.Allowed.{none_is}
 use Rattle.protocol.proofs.Invariant.{taken_weight, Past, owed, ideal, Inv}
 use Rattle.protocol.proofs.Operations.{length_applied, mapped_none}
 use Rattle.protocol.proofs.Owing.{gathered_none, unlocked_owes}
@@ -12,12 +13,7 @@ use Rattle.protocol.proofs.Places.{nth_take, same_by_nth}
 use Rattle.protocol.proofs.Turning.{unchanged, run_inv}
 
 ended : (g : Stage) → option_is_some (end_of g) ≡ true → (o : Outcome) × (g ≡ Ended o)
-ended Running h = absurd (false≢true h)
-ended (Locking c) h = absurd (false≢true h)
-ended Checking h = absurd (false≢true h)
-ended (Writing p c) h = absurd (false≢true h)
-ended (Sharding p i) h = absurd (false≢true h)
-ended (Ended o) h = (o, refl)
+ended g h = grind arith
 
 -- ---- in time
 
@@ -111,69 +107,20 @@ module _ {M : Type 0} (k : Model M) where
     told w n t l held is TurnedAway g = (unplaced w n t l held is (ap place_of g), refl)
 
     as_collected : (lent : List M) (w n : ℕ) (buffer : List ℤ) (c : List ℕ) (zs : List ℤ) → (turn k sh s lent (Collect w n buffer)).answer ≡ Gave c zs → (o : Outcome) × (c ≡ outcome_code o) × RightlyTold x.events n zs o
-    as_collected lent w n buffer c zs = go (first_of (tests k sh s lent (Collect w n buffer))) refl
-      where
-        ends : (t : Transaction) → (row_at s.rows w).current ≡ Some t → w < sh.workers → t.ticket ≡ n → (o : Outcome) → t.stage ≡ Ended o
-            → Gave (outcome_code o) (cond (option_is_some (place_in o)) t.answers []) ≡ Gave c zs → (o : Outcome) × (c ≡ outcome_code o) × RightlyTold x.events n zs o
-        ends t held l is o g e =
-            let code : outcome_code o ≡ c = cc in
-            let answers : cond (option_is_some (place_in o)) t.answers [] ≡ zs = cc in
-            (o, sym code, subst (λ ys. RightlyTold x.events n ys o) answers (told w n t l held is o g))
-
-        hands : (h : Option Transaction) → (row_at s.rows w).current ≡ h → w < sh.workers → has_ended n h ≡ true → Gave (outcome_told (outcome_of h)) (answers_of h) ≡ Gave c zs
-            → (o : Outcome) × (c ≡ outcome_code o) × RightlyTold x.events n zs o
-        hands None held l b e = absurd (false≢true b)
-        hands (Some t) held l b e =
-            let a = and_parts (eqb t.ticket n) _ b in
-            let o = ended t.stage a.1 in
-            ends t held l (eqb-true t.ticket n a.0) o.0 o.1 (subst (λ (g : Stage). Gave (outcome_told (end_of g)) (cond (option_is_some (place_of g)) t.answers []) ≡ Gave c zs) o.1 e)
-
-        go : (o : Option (List ℕ)) → first_of (tests k sh s lent (Collect w n buffer)) ≡ o → (turn_by k sh s lent (Collect w n buffer) o).answer ≡ Gave c zs → (o : Outcome) × (c ≡ outcome_code o) × RightlyTold x.events n zs o
-        go (Some d) h e = absurd (cc)
-        go None h e = let a = allowed k sh s lent (Collect w n buffer) h in hands (row_at s.rows w).current refl a.0 a.1 e
+    as_collected lent w n buffer c zs h = grind (arith, told)
 
     pub kept : Kept k sh start x
-    kept = record {
-      serializable = record {
-        each_place = inv.kept.past.each_place;
-        as_taken = inv.kept.past.as_taken;
-        as_read = inv.kept.past.as_read;
-        same_readings = inv.kept.past.same_readings;
-        same_values = same_values;
-        in_time = in_time k sh start x.events s.ticket s.place inv.kept.past;
-      };
-      truthful = record { each_ticket = inv.kept.past.each_ticket; placed_once = times_one; as_collected = as_collected };
-      in_bounds = record {
-        places = omega (arith, inv.sound.counted);
-        tickets = inv.sound.low;
-        versions = λ key. omega (arith, inv.kept.sized.versions key, inv.sound.counted, inv.sound.low);
-      };
-    }
+    kept = search (rules, same_values, in_time, times_one, as_collected)
 
 -- ---- takings
 
 module _ {M : Type 0} (k : Model M) (sh : Shape) (s : State) (lent : List M) where
   of_takings : (w : ℕ) (text : List ℕ) (q : Result (List Entry) (List ℕ)) (c : List ℕ) (zs : List ℤ) → (turn k sh s lent (Take w text q)).answer ≡ Gave c zs
       → (n : ℕ) × (es : List Entry) × (c ≡ n ∷ []) × (q ≡ Ok es) × ((turn k sh s lent (Take w text q)).events ≡ Taken (record { ticket = n; worker = w; text = text; entries = es }) ∷ [])
-  of_takings w text q c zs = go (first_of (tests k sh s lent (Take w text q))) q
-    where
-      go : (o : Option (List ℕ)) (p : Result (List Entry) (List ℕ)) → (turn_by k sh s lent (Take w text p) o).answer ≡ Gave c zs
-          → (n : ℕ) × (es : List Entry) × (c ≡ n ∷ []) × (p ≡ Ok es) × ((turn_by k sh s lent (Take w text p) o).events ≡ Taken (record { ticket = n; worker = w; text = text; entries = es }) ∷ [])
-      go (Some d) p h = absurd (cc)
-      go None (Err d) h = absurd (cc)
-      go None (Ok es) h = let e : suc s.ticket ∷ [] ≡ c = cc in (suc s.ticket, es, sym e, refl, refl)
+  of_takings w text q c zs h = grind arith
 
   of_others : (c : Call) (t : Taking) (i : ℕ) → nth (turn k sh s lent c).events i ≡ Some (Taken t) → c ≡ Take t.worker t.text (Ok t.entries)
-  of_others c t = go (first_of (tests k sh s lent c))
-    where
-      go : (o : Option (List ℕ)) (i : ℕ) → nth (turn_by k sh s lent c o).events i ≡ Some (Taken t) → c ≡ Take t.worker t.text (Ok t.entries)
-      go o zero h = grind arith
-      go o (suc i) h = grind arith
+  of_others c t i h = grind arith
 
 pub promised : {M : Type 0} (k : Model M) → Laws k → Promise k
-promised k laws = record {
-  of_runs = λ sh start x fine low runs. kept k sh start fine x (run_inv k laws sh start fine low x runs);
-  of_refusals = λ sh s lent c code h. unchanged k sh s lent code c h;
-  of_takings = λ sh s lent. of_takings k sh s lent;
-  of_others = λ sh s lent. of_others k sh s lent;
-}
+promised k laws = search (rules, kept, run_inv, unchanged, of_takings, of_others)

@@ -1,6 +1,6 @@
 -- One entry more: what a transaction has read holds good, and what it does next.
 use Rattle.protocol.proofs.Base.{◌≡◌, refl, sym, ap, subst, subst₂, ◌∙◌, true, false, cond, List, [], ◌∷◌, ◌++◌, ℕ, arith, length, none-some, nth_within, All-push, All-take, All-weaker, length-take-le, take_at, cond_both, cond-true, or_parts, Option, Some, None, option_is_some, AllByRecursion, nth}
-use Rattle.protocol.specs.Rules.{Model, Entry, applied, falls_short, Note, Running, Locking, Checking, SplitItem, Stage, Stamp, Transaction, Shape, stamp_at, place_of, at_stage, looks, find_split, strays_from, strays, next_target, or_stage, after_running, is_noted, note, one_more, has_run, noting, reading, Event}
+use Rattle.protocol.specs.Rules.{Model, Entry, applied, falls_short, Note, Running, SplitItem, Stage, Stamp, Transaction, Shape, stamp_at, place_of, at_stage, looks, find_split, strays_from, strays, after_running, is_noted, note, one_more, has_run, noting, reading, Event}
 use Rattle.serial.specs.Alone.{tells as told}
 use Rattle.protocol.proofs.Alone.{Finished, Gives, gives_more}
 use Rattle.protocol.proofs.Allowed.{none_is}
@@ -35,11 +35,7 @@ module _ {M : Type 0} (k : Model M) (sh : Shape) (ls : List SplitItem) (w : ℕ)
 
       -- no entry is left to run: it goes on to lock and to check
       pub locks_on : (from : ℕ) → Faithful k sh ls ss table w t → Finished t → Early (at_stage t (after_running ls (ran t) from))
-      locks_on from f d = go (next_target ls from (ran t))
-        where
-          go : (o : Option ℕ) → Early (at_stage t (or_stage o Locking Checking))
-          go None = early Checking refl (f, d)
-          go (Some c) = early (Locking c) refl (f, d)
+      locks_on from f d = grind arith
 
     -- one entry more
     module _ (t : Transaction) (e : Entry) (next : nth t.entries t.done ≡ Some e) (fits : strays ls e ≡ false) (ready : Ready k sh events w t)

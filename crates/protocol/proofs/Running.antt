@@ -51,8 +51,7 @@ module _ {M : Type 0} (k : Model M) (sh : Shape) (start : List M) (x : World M) 
     -- a transaction that has no place goes on without one
     goes_on : (u : Transaction) → place_of t.stage ≡ None → Early k sh ls w ss x.table x.events u
         → Kept k sh start (after k sh start x w s.ticket s.place ss (record { current = Some u; stash = row.stash; acknowledged = row.acknowledged; merged = row.merged }) x.table [])
-    goes_on u unplaced ok = stays (Some u) row.stash (λ v e. subst (HandOk k sh ls ss x.table x.events w) (same_Some u v e) ok.0) (inv.kept.rows w).stash
-        (λ key. unplaced_owes k sh ls w key (ran u) u.stage ok.1 ∙ sym (owed_before unplaced key))
+    goes_on u unplaced ok = grind (arith, stays)
 
     -- or ends without one
     ends : (o : Outcome) → place_in o ≡ None → place_of t.stage ≡ None

@@ -1,6 +1,7 @@
 -- Where shards lie in the table, what making them fresh leaves, and that all that is owed to a split record is what it is split for.
-use Rattle.protocol.proofs.Base.{◌≡◌, refl, sym, ap, ◌∙◌, true, false, not, ◌&&◌, ◌||◌, List, [], ◌∷◌, ◌++◌, ◌⊎◌, inl, inr, ℕ, zero, suc, ◌+◌, ◌≤◌, ◌<◌, arith, eqb, leb, length, drop, none-some, nth_within, All-append, All-take, All-drop, cases_eq, cond_both, eqb-true, tells, Option, Some, None, AllByRecursion, nth, cond, mapped}
-use Rattle.protocol.specs.Rules.{Model, Action, Show, Need, Change, Entry, modify, Phase, Split, Merging, SplitItem, Stage, Running, Locking, Checking, Writing, Sharding, Ended, Stamp, takes, late, Transaction, Shape, row_at, verb_of, action_ops, ops_of, ops_on, split_in, find_split, is_split, same_verb, strays, strays_from, shard_at, Event, fresh_row, fresh_all, World, State, Row, Operation, apply_all}
+use Rattle.std.proofs.Common.{rules}
+use Rattle.protocol.proofs.Base.{◌≡◌, refl, sym, ap, ◌∙◌, true, false, ◌&&◌, ◌||◌, List, [], ◌∷◌, ◌++◌, ◌⊎◌, inl, inr, ℕ, zero, suc, ◌+◌, ◌≤◌, ◌<◌, arith, eqb, leb, length, drop, none-some, nth_within, All-append, All-take, All-drop, cases_eq, cond_both, eqb-true, tells, Option, Some, None, AllByRecursion, nth, cond, mapped}
+use Rattle.protocol.specs.Rules.{Model, Entry, modify, Phase, Split, Merging, SplitItem, Stage, Running, Locking, Checking, Writing, Sharding, Ended, Stamp, takes, late, Transaction, Shape, row_at, ops_of, ops_on, split_in, find_split, is_split, strays, shard_at, Event, fresh_row, fresh_all, World, State, Row, Operation, apply_all}
 use Rattle.protocol.proofs.Finding.{admitted}
 use Rattle.protocol.proofs.Frames.{after, each_row}
 use Rattle.protocol.proofs.Invariant.{HandOk, Fits, pending_at, pending, owed, gathered, Inv, ShardOk, ValuesOk, ideal}
@@ -58,12 +59,7 @@ split_item p ls i l h = grind arith
 
 module _ {M : Type 0} (k : Model M) (sh : Shape) (ls : List SplitItem) (w key j : ℕ) (l : SplitItem) (found : find_split 0 ls key ≡ Some (j, l)) where
   pub fits_entry : (e : Entry) → e.key ≡ key → strays ls e ≡ false → takes k w e e.action ≡ true → AllByRecursion (Fits k sh l) (ops_of w e)
-  fits_entry e d s n = go e.action (ap (strays_from e) (sym (ap (find_split 0 ls) d ∙ found)) ∙ s) n
-    where
-      go : (a : Action) → not (eqb e.part l.part && same_verb (verb_of a) l.verb) ≡ false → takes k w e a ≡ true → AllByRecursion (Fits k sh l) (action_ops w e.part a)
-      go (Show n) p q = tt
-      go (Need n b) p q = tt
-      go (Change v n m) p q = (grind (arith, tells), tt)
+  fits_entry e d s n = grind arith
 
   fits_entries : (es : List Entry) → AllByRecursion (λ e. strays ls e ≡ false) es → AllByRecursion (λ e. (e.key < sh.keys) × (takes k w e e.action ≡ true)) es → AllByRecursion (Fits k sh l) (ops_on w key es)
   fits_entries [] s n = tt
@@ -72,8 +68,7 @@ module _ {M : Type 0} (k : Model M) (sh : Shape) (ls : List SplitItem) (w key j 
 
   -- what entries that passed the tests do to a split key, from a number on, is what it is split for
   pub fits_ran : (t : Transaction) (i : ℕ) → late k sh.keys w t.entries ≡ None → AllByRecursion (λ e. strays ls e ≡ false) (ran t) → AllByRecursion (Fits k sh l) (ops_on w key (drop i (ran t)))
-  fits_ran t i fine chosen =
-      fits_entries (drop i (ran t)) (All-drop _ i (ran t) chosen) (All-drop _ i (ran t) (All-take _ t.done t.entries (admitted k sh.keys w t.entries fine)))
+  fits_ran t i fine chosen = search (rules, fits_entries, All-drop, All-take, admitted)
 
   -- and so is what it still owes
   pub fits_pending : {ss : List Stamp} {table : List M} {events : List Event} (o : Option Transaction)
@@ -126,10 +121,7 @@ module _ {M : Type 0} (k : Model M) (sh : Shape) (start : List M) (x : World M) 
   -- a shard is the one that changes, or it lies elsewhere
   this_or_other : (j n : ℕ) (m : SplitItem) → nth s.split n ≡ Some m
       → ((j ≡ w) × (n ≡ i) × (m ≡ l) × (now j m.key ≡ os)) ⊎ ((now j m.key ≡ ops j m.key) × (j ≡ w → n ≡ i → ⊥) × (shard_at sh.keys j n ≡ at → ⊥))
-  this_or_other j n m h =
-      let a = good_found k sh.keys s.split n m inv.kept.sized.split_good h in
-      let b = good_found k sh.keys s.split i l inv.kept.sized.split_good there in
-      grind (arith, tells, nth_within s.split n m h, nth_within s.split i l there, inv.kept.sized.split_few)
+  this_or_other j n m h = grind (arith, good_found, nth_within)
 
   owes_now : (key j : ℕ) → ((j ≡ w) × (owed k sh x'.state now key j ≡ now w key ++ pending k sh ls w key r.current)) ⊎ ((j ≡ w → ⊥) × (owed k sh s ops key j ≡ owed k sh x'.state now key j))
   owes_now key = owes_then k sh start x inv w s.ticket s.place ss r [] inside now key (λ j d. grind (arith, tells))

@@ -1,5 +1,5 @@
 -- Every turn keeps what holds of the engine between calls: its locks, its counts, and that whoever has acknowledged rests.
-use Rattle.protocol.proofs.Base.{◌≡◌, refl, sym, ap, ◌∙◌, Bool, true, false, List, [], ◌∷◌, map, ◌⊎◌, inl, inr, ℕ, zero, suc, ◌+◌, ◌≤◌, ◌<◌, ◌^◌, arith, length, set, replicate, get_or_past, none-some, length-set, length-map, get_or-replicate, sum_by-cons, tells, Option, Some, None, Ok, Err, nth}
+use Rattle.protocol.proofs.Base.{◌≡◌, refl, sym, ap, ◌∙◌, Bool, true, false, List, [], ◌∷◌, map, ◌⊎◌, inl, inr, ℕ, zero, suc, ◌+◌, ◌≤◌, ◌<◌, ◌^◌, arith, length, set, replicate, get_or_past, length-set, length-map, get_or-replicate, sum_by-cons, tells, Option, Some, None, Ok, Err, nth}
 use Rattle.protocol.specs.Rules.{Model, Phase, Closing, Merging, SplitItem, Stamp, Transaction, Row, Shape, State, idle, row_at, stamp_at, begin, with_current, split_in, first_of, owned_by, Moved, put_back, move, step_row, Call, Take, Draw, Step, Acknowledge, Merge, Collect, AnnounceSplit, AnnounceMerging, Release, next_phase, all_acknowledged, drawn, acknowledging, merging, revised, revise, opened, tests, makes, turn_by, turn, holds, aims, in_row, in_rows, may_rest, Counted, Sound, StaysSound}
 use Rattle.std.proofs.lemmas.List.{length-replicate}
 use Rattle.protocol.proofs.Allowed.{Allowed, allowed}
@@ -93,14 +93,7 @@ module _ (sh : Shape) (s : State) (sound : Sound sh s) where
   phase_sound : (p : Phase) (items : List SplitItem) (rows : List Row) → length rows ≡ length s.rows → ((w : ℕ) → (row_at rows w).current ≡ (row w).current)
       → (split_in p items ≡ ls) ⊎ ((w : ℕ) → (row w).current ≡ None) → ((w : ℕ) → (row_at rows w).acknowledged ≡ true → may_rest p (row_at rows w) ≡ true)
       → let then : State = record { ticket = s.ticket; place = s.place; phase = p; split = items; stamps = s.stamps; rows = rows } in Counted then → Sound sh then
-  phase_sound p items rows len hands alike rests counted = record {
-    rows = len ∙ sound.rows;
-    locks = λ key w l. locked_so (stamp_at s.stamps key).owner w _ (grind (arith, was_own w key l, hands w));
-    aims = λ w. grind (arith, hands w, sound.aims w);
-    counted = counted;
-    low = sound.low;
-    resting = rests;
-  }
+  phase_sound p items rows len hands alike rests counted = grind arith
 
   -- merging changes a version, and no owner
   revise_owns : (w : ℕ) (o : Option SplitItem) → Owns ls w s.stamps (revise s.place o s.stamps) (row w).current
@@ -147,26 +140,12 @@ module _ (sh : Shape) (s : State) (sound : Sound sh s) where
 
 module _ {M : Type 0} (k : Model M) (sh : Shape) where
   pub opened_sound : sh.first < 2 ^ 64 → Sound sh (opened sh)
-  opened_sound low = record {
-    rows = length-replicate sh.workers idle;
-    locks = λ key w l.
-        let o : (stamp_at (opened sh).stamps key).owner ≡ None = ap (λ (st : Stamp). st.owner) (get_or-replicate sh.keys key _ _ (rw length-replicate at l)) in
-        (λ e. absurd (none-some w (sym o ∙ e)), λ e. grind (arith, idle_rows sh.workers w));
-    aims = λ w. grind (arith, idle_rows sh.workers w);
-    counted = omega (arith, idle_weigh (λ _. 1) sh.workers);
-    low = omega arith;
-    resting = λ w h. grind (arith, idle_rows sh.workers w);
-  }
+  opened_sound low = grind (arith, length-replicate, get_or-replicate, idle_rows, idle_weigh)
 
   module _ (s : State) (table : List M) (sound : Sound sh s) where
     -- a turn gives no ticket a place that it does not hold, and holds no more tickets than it takes
     pub weighs : (f : ℕ → ℕ) (c : Call) → placed_weight f (turn k sh s table c).events + in_rows f (turn k sh s table c).state.rows ≤ in_rows f s.rows + taken_weight f (turn k sh s table c).events
-    weighs f c = go (first_of (tests k sh s table c)) refl
-      where
-        go : (o : Option (List ℕ)) → first_of (tests k sh s table c) ≡ o
-            → let m = turn_by k sh s table c o in placed_weight f m.events + in_rows f m.state.rows ≤ in_rows f s.rows + taken_weight f m.events
-        go (Some code) e = omega arith
-        go None e = (made_weighs k sh s table sound.rows c (allowed k sh s table c e)).weight f
+    weighs f c = grind (arith, made_weighs)
 
     pub turn_sound : (c : Call) → Sound sh (turn k sh s table c).state
     turn_sound c = go (first_of (tests k sh s table c)) refl

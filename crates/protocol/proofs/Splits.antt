@@ -19,11 +19,7 @@ found_from (x ∷ ls) i key j l h = elim (cases_eq x.key key) [
 ]
 
 pub found_at : (ls : List SplitItem) (key j : ℕ) (l : SplitItem) → find_split 0 ls key ≡ Some (j, l) → (nth ls j ≡ Some l) × (l.key ≡ key)
-found_at ls key j l h =
-    let r = found_from ls 0 key j l h in
-    let q = r.1 in
-    let e : j ≡ r.0 = omega arith in
-    (rw e r.2, r.3)
+found_at ls key j l h = grind (arith, found_from)
 
 module _ {M : Type 0} (k : Model M) (keys : ℕ) where
   -- what the test says of an item

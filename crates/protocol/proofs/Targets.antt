@@ -1,17 +1,11 @@
 -- Which key is locked or written next, and which operation goes to a shard next.
-use Rattle.protocol.proofs.Base.{◌≡◌, subst, Bool, true, false, not, ◌&&◌, List, [], ◌∷◌, inl, inr, ℕ, min, ◌≤◌, arith, eqb, or_cases, or_left, or_right, cases_lt, cond_both, false≢true, tells, Option, Some, None, AllByRecursion}
+use Rattle.protocol.proofs.Base.{◌≡◌, subst, Bool, true, false, not, ◌&&◌, List, [], ◌∷◌, inl, inr, ℕ, ◌≤◌, arith, eqb, or_cases, cond_both, false≢true, tells, Option, Some, None, AllByRecursion}
 use Rattle.protocol.specs.Rules.{Entry, SplitItem, changes, is_split, wanted, next_target, lesser, writes}
 
 module _ (ls : List SplitItem) where
   -- the test of one entry
   abbrev pub one_writes : Entry → ℕ → Bool
   one_writes e key = changes e && (not (is_split ls e.key) && eqb e.key key)
-
-  writes_wanted : (from key : ℕ) (e : Entry) → one_writes e key ≡ true → from ≤ key → wanted ls from e ≡ true
-  writes_wanted from key e h l = grind (arith, tells)
-
-  wanted_writes : (from : ℕ) (e : Entry) → wanted ls from e ≡ true → (one_writes e e.key ≡ true) × (from ≤ e.key)
-  wanted_writes from e h = grind (arith, tells)
 
   one_key : (e : Entry) (key : ℕ) → one_writes e key ≡ true → e.key ≡ key
   one_key e key h = grind (arith, tells)
@@ -35,24 +29,10 @@ module _ (ls : List SplitItem) where
 
   module _ (e : Entry) (es : List Entry) (from : ℕ) where
     passed_over : wanted ls from e ≡ false → (o : Option ℕ) → Next es from o → Next (e ∷ es) from o
-    passed_over h None n = λ key w l. n key (grind (arith, tells, writes_wanted from key e)) l
-    passed_over h (Some c) n =
-        (or_right (one_writes e c) (writes ls es c) n.0, n.1, λ key w l. n.2 key (grind (arith, tells, writes_wanted from key e)) l)
+    passed_over h o n = grind arith
 
     taken_in : wanted ls from e ≡ true → (o : Option ℕ) → Next es from o → Next (e ∷ es) from (Some (lesser e.key o))
-    taken_in h None n =
-        let f = wanted_writes from e h in
-        (or_left (one_writes e e.key) (writes ls es e.key) f.0, f.1, λ key w l. grind (arith, one_key e key, n key))
-    taken_in h (Some c) n =
-        let f = wanted_writes from e h in
-        elim (cases_lt e.key c) [
-          | inl l ↦
-              let m : min e.key c ≡ e.key = omega arith in
-              rw m (or_left (one_writes e e.key) (writes ls es e.key) f.0, f.1, λ key w u. grind (arith, one_key e key, n.2 key))
-          | inr l ↦
-              let m : min e.key c ≡ c = omega arith in
-              rw m (or_right (one_writes e c) (writes ls es c) n.0, n.1, λ key w u. grind (arith, one_key e key, n.2 key))
-        ]
+    taken_in h o n = grind arith
 
   pub next_key : (from : ℕ) (es : List Entry) → Next es from (next_target ls from es)
   next_key from [] = λ key w. absurd (false≢true w)

@@ -1,6 +1,8 @@
 -- Every turn of every run keeps the invariant.
+use Rattle.std.proofs.lemmas.Grind.{common_steps}
+use Rattle.std.proofs.Common.{rules}
 use Rattle.protocol.proofs.Base.{◌≡◌, refl, sym, subst, ◌∙◌, true, List, [], ◌++◌, append-nil, ℕ, ◌<◌, ◌^◌, arith, ℤ, false≢true, Option, Some, None, Result}
-use Rattle.protocol.specs.Rules.{Model, Laws, ReadAs, Entry, SplitItem, first_of, Transaction, Shape, State, row_at, split_in, Moved, step_row, Taking, Placing, Call, Take, Draw, Step, Acknowledge, Merge, Collect, AnnounceSplit, AnnounceMerging, Release, Event, Made, Refused, left_in, runs, refuse_open, tests, merges, makes, turn_by, turn, taking_in, placing_in, World, Lawful, Runs, opens, refuses, Unchanged}
+use Rattle.protocol.specs.Rules.{Model, Laws, ReadAs, Entry, SplitItem, first_of, Transaction, Shape, State, row_at, split_in, Moved, step_row, Call, Take, Draw, Step, Acknowledge, Merge, Collect, AnnounceSplit, AnnounceMerging, Release, Event, Made, Refused, left_in, runs, refuse_open, tests, merges, makes, turn_by, turn, World, Lawful, Runs, opens, refuses, Unchanged}
 use Rattle.protocol.proofs.Allowed.{allowed}
 use Rattle.protocol.proofs.Committing.{places_ok}
 use Rattle.protocol.proofs.Doing.{Does, rests, reads, strays_off, clashes, locks, places, writes_on, shards, does}
@@ -24,10 +26,7 @@ module _ {M : Type 0} (k : Model M) (sh : Shape) (s : State) (lent : List M) (co
   Same m = (m.state ≡ s) × (m.table ≡ lent) × ((buffer : List ℤ) → left_in buffer m.answer ≡ buffer) × (m.events ≡ [])
 
   pub unchanged : (c : Call) → (turn k sh s lent c).answer ≡ Refused code → Unchanged k sh s lent c
-  unchanged c h = let r = go (first_of (tests k sh s lent c)) h in record { state = r.0; table = r.1; buffer = r.2; events = r.3 }
-    where
-      go : (o : Option (List ℕ)) → (turn_by k sh s lent c o).answer ≡ Refused code → Same (turn_by k sh s lent c o)
-      go o g = (grind arith, grind arith, λ buffer. grind arith, grind arith)
+  unchanged c h = grind arith
 
 module _ {M : Type 0} (k : Model M) (laws : Laws k) (sh : Shape) (start : List M) where
   -- the world after what a turn made
@@ -82,22 +81,13 @@ module _ {M : Type 0} (k : Model M) (laws : Laws k) (sh : Shape) (start : List M
     still = λ i. record { state = s; table = x.table; events = sym (append-nil x.events) i }
 
     turn_fine : (c : Call) → Lawful c → (o : Option (List ℕ)) → first_of (tests k sh s x.table c) ≡ o → Fine (turn_by k sh s x.table c o)
-    turn_fine c r (Some code) h = subst (Kept k sh start) still inv.kept
-    turn_fine c r None h = makes_fine c r h
+    turn_fine c r o h = grind (arith, common_steps, makes_fine)
 
     weighed_after : (c : Call) → Weighed (x.events ++ (turn k sh s x.table c).events) (turn k sh s x.table c).state.rows
-    weighed_after c f =
-        let new = (turn k sh s x.table c).events in
-        let a = weight_append placing_in (λ (p : Placing). f p.ticket) x.events new in
-        let b = weight_append taking_in (λ (t : Taking). f t.ticket) x.events new in
-        omega (arith, inv.weighed f, weighs k sh s x.table inv.sound f c)
+    weighed_after c = grind (arith, weight_append, weighs)
 
     turn_inv : (c : Call) → Lawful c → Inv k sh start (then x (turn k sh s x.table c))
-    turn_inv c r = record {
-      sound = turn_sound k sh s x.table inv.sound c;
-      weighed = weighed_after c;
-      kept = turn_fine c r (first_of (tests k sh s x.table c)) refl;
-    }
+    turn_inv c r = search (rules, turn_sound, weighed_after, turn_fine)
 
   -- what holds of every world that a run leads to
   pub run_inv : refuse_open k sh start ≡ None → sh.first < 2 ^ 64 → (x : World M) → Runs k sh start x → Inv k sh start x

@@ -1,6 +1,7 @@
 -- The tickets that have no place: what a turn adds to them, and what it takes from them.
-use Rattle.protocol.proofs.Base.{◌≡◌, refl, ap, false, List, [], ◌∷◌, map, ℕ, ◌+◌, ◌≤◌, ◌<◌, arith, length, set, sum_by-cons, sum_by_push, sum_by-set, Option, Some, None, Ok, Err}
-use Rattle.protocol.specs.Rules.{Model, SplitItem, Stamp, Transaction, Row, Shape, State, idle, row_at, split_in, Moved, put_back, step_row, Call, Take, Draw, Step, Acknowledge, Merge, Collect, AnnounceSplit, AnnounceMerging, Release, Event, drawn, acknowledging, merging, makes, in_hand, in_row, in_rows}
+use Rattle.std.proofs.lemmas.Grind.{common_steps}
+use Rattle.protocol.proofs.Base.{◌≡◌, List, [], ℕ, ◌+◌, ◌≤◌, ◌<◌, arith, length, set, sum_by_push, sum_by-set, Option, Some, None}
+use Rattle.protocol.specs.Rules.{Model, SplitItem, Stamp, Transaction, Row, Shape, State, idle, row_at, split_in, Moved, put_back, step_row, Call, Event, drawn, makes, in_row, in_rows}
 use Rattle.protocol.proofs.Allowed.{Allowed}
 use Rattle.protocol.proofs.Doing.{Does, rests, reads, strays_off, clashes, locks, places, writes_on, shards, does}
 use Rattle.protocol.proofs.Invariant.{placed_weight, taken_weight}
@@ -11,17 +12,11 @@ module _ (f : ℕ → ℕ) where
   set_weighs : (rows : List Row) (w : ℕ) (r : Row) (p q : ℕ) → w < length rows → p + in_row f r ≤ in_row f (row_at rows w) + q → p + in_rows f (set rows w r) ≤ in_rows f rows + q
   set_weighs rows w r p q l h = omega (arith, sum_by-set (in_row f) rows w r idle l)
 
-  -- every row is changed, and holds what it held
-  map_weighs : (g : Row → Row) → ((r : Row) → in_row f (g r) ≡ in_row f r) → (rows : List Row) → in_rows f (map g rows) ≡ in_rows f rows
-  map_weighs g same [] = refl
-  map_weighs g same (r ∷ rows) = omega (arith, sum_by-cons (in_row f) (g r) (map g rows), sum_by-cons (in_row f) r rows, same r, map_weighs g same rows)
-
   abbrev ticket_weight : Transaction → ℕ
   ticket_weight t = f t.ticket
 
   drawn_weighs : (r : Row) (ts : List Transaction) → r.current ≡ None → r.stash ≡ ts → in_row f (drawn r ts) ≤ in_row f r
-  drawn_weighs r [] empty e = omega arith
-  drawn_weighs r (t ∷ ts) empty e = grind (arith, sum_by-cons ticket_weight t ts)
+  drawn_weighs r ts empty e = grind (arith, common_steps)
 
 -- a step gives the place that it takes a ticket from
 module _ {M : Type 0} (k : Model M) (keys : ℕ) (ls : List SplitItem) (w : ℕ) (ss : List Stamp) (place : ℕ) (table : List M) (t : Transaction) where
@@ -37,14 +32,7 @@ module _ {M : Type 0} (k : Model M) (keys : ℕ) (ls : List SplitItem) (w : ℕ)
   step_weighs f r h (shards p i e g there) = grind arith
 
   step_counts : {m : Moved M} {new : List Event} → Does k keys ls w ss place table t m new → (m.place ≡ place + placed_weight (λ _. 1) new) × (taken_weight (λ _. 1) new ≡ 0)
-  step_counts rests = (omega arith, refl)
-  step_counts (reads e g next fits free) = (omega arith, refl)
-  step_counts (strays_off g) = (omega arith, refl)
-  step_counts (clashes key g) = (omega arith, refl)
-  step_counts (locks key g free) = (omega arith, refl)
-  step_counts (places g fresh) = (omega arith, refl)
-  step_counts (writes_on p key g) = (omega arith, refl)
-  step_counts (shards p i e g there) = (omega arith, refl)
+  step_counts h = grind arith
 
 -- ---- calls
 
@@ -82,14 +70,4 @@ module _ {M : Type 0} (k : Model M) (sh : Shape) (s : State) (table : List M) (f
       }
 
   pub made_weighs : (c : Call) → Allowed k sh s table c → let m = makes k sh s table c in Weighs s m.state.rows m.state.place m.state.ticket m.events
-  made_weighs (Take w text (Err c)) a = rows_weigh s.rows (λ f. omega arith)
-  made_weighs (Take w text (Ok es)) a =
-      record { weight = λ f. set_weighs f s.rows w _ _ _ (omega (arith, a.0)) (omega (arith, ap (in_hand f) a.2)); places = omega arith; tickets = omega arith }
-  made_weighs (Draw w) a = row_weighs w a.0 (drawn (row w) (row w).stash) (λ f. drawn_weighs f (row w) (row w).stash a.2 refl)
-  made_weighs (Step w) a = hand_weighs w a.0 (row w).current refl
-  made_weighs (Acknowledge w) a = row_weighs w a.0 _ (λ f. omega arith)
-  made_weighs (Merge w) a = row_weighs w a.0 _ (λ f. omega arith)
-  made_weighs (Collect w ticket buffer) a = row_weighs w a.0 _ (λ f. omega arith)
-  made_weighs (AnnounceSplit items) a = rows_weigh _ (λ f. omega (arith, map_weighs f (merging 0) (λ r. refl) s.rows))
-  made_weighs AnnounceMerging a = rows_weigh s.rows (λ f. omega arith)
-  made_weighs (Release p) a = rows_weigh _ (λ f. omega (arith, map_weighs f (acknowledging false) (λ r. refl) s.rows))
+  made_weighs c a = grind (arith, common_steps, drawn_weighs, hand_weighs)
