@@ -51,7 +51,7 @@ module _ {M : Type 0} (k : Model M) (laws : Laws k) (sh : Shape) (start : List M
   checked = subst (StageOk k sh ls s.stamps x.table w t) checking hand.stage
 
   own_before : (key : ℕ) → owed k sh s ops key w ≡ ops w key
-  own_before key = ap (λ (o : Option Transaction). ops w key ++ pending k sh ls w key o) held ∙ ap (λ (g : Stage). ops w key ++ pending_at k sh ls w key (ran t) g) checking ∙ append-nil (ops w key)
+  own_before key = grind (arith, append-nil)
 
   -- what each worker owes now: the transaction's operations are owed too
   owes_now : (key j : ℕ) → ((j ≡ w) × (now key j ≡ owed k sh s ops key w ++ ops_on w key (ran t))) ⊎ ((j ≡ w → ⊥) × (owed k sh s ops key j ≡ now key j))

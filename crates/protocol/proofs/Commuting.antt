@@ -26,7 +26,7 @@ module _ {M : Type 0} (k : Model M) (laws : Laws k) (sh : Shape) (l : SplitItem)
   taken o f = subst T (sym f.2 ∙ (λ i. (k.rule (f.0 i) (f.1 i)).takes o.argument)) tt
 
   two_commute : (o p : Operation) (x : M) → Fits k sh l o → Fits k sh l p → does o (does p x) ≡ does p (does o x)
-  two_commute o p x f g = let a = (laws.lawful l.part l.verb).commutes o.argument p.argument x split (taken o f) (taken p g) in cc
+  two_commute o p x f g = grind arith
 
   one_through : (o : Operation) (os : List Operation) (x : M) → Fits k sh l o → AllByRecursion (Fits k sh l) os → apply_all k os (does o x) ≡ does o (apply_all k os x)
   one_through o [] x f g = refl
@@ -39,11 +39,11 @@ module _ {M : Type 0} (k : Model M) (laws : Laws k) (sh : Shape) (l : SplitItem)
   -- some of many may be done first, or last
   apply_first : (before os rest behind : List Operation) (x : M) → AllByRecursion (Fits k sh l) before → AllByRecursion (Fits k sh l) os
       → apply_all k (before ++ ((os ++ rest) ++ behind)) x ≡ apply_all k (before ++ (rest ++ behind)) (apply_all k os x)
-  apply_first before os rest behind x f g = simp (apply_append k) (ap (λ (z : M). apply_all k behind (apply_all k rest z)) (lists_commute before os x f g))
+  apply_first before os rest behind x f g = grind (arith, apply_append, lists_commute)
 
   apply_last : (before rest os behind : List Operation) (x : M) → AllByRecursion (Fits k sh l) os → AllByRecursion (Fits k sh l) behind
       → apply_all k (before ++ ((rest ++ os) ++ behind)) x ≡ apply_all k os (apply_all k (before ++ (rest ++ behind)) x)
-  apply_last before rest os behind x f g = simp (apply_append k) (lists_commute os behind (apply_all k rest (apply_all k before x)) f g)
+  apply_last before rest os behind x f g = grind (arith, apply_append, lists_commute)
 
   -- what was done to a shard is done by merging it
   merge_applied : (os : List Operation) (y x : M) → AllByRecursion (Fits k sh l) os → rule.merge (apply_all k os y) x ≡ apply_all k os (rule.merge y x)
@@ -56,7 +56,7 @@ module _ {M : Type 0} (k : Model M) (laws : Laws k) (sh : Shape) (l : SplitItem)
   -- a shard that began fresh, merged, is its operations
   pub merge_all : (os : List Operation) (base x : M) → AllByRecursion (Fits k sh l) os
       → (k.rule l.part l.verb).merge (apply_all k os ((k.rule l.part l.verb).fresh base)) x ≡ apply_all k os x
-  merge_all os base x fit = merge_applied os (rule.fresh base) x fit ∙ ap (apply_all k os) ((laws.lawful l.part l.verb).neutral base x split)
+  merge_all os base x fit = grind (arith, merge_applied)
 
 -- what one worker owes may be done first, and what it comes to owe last: on a split record all operations commute, and on one that it has locked no other worker owes anything
 module _ {M : Type 0} (k : Model M) (laws : Laws k) (sh : Shape) (start : List M) (x : World M) (inv : Inv k sh start x) (w : ℕ) (inside : w < sh.workers) (key : ℕ) (low : key < sh.keys) where
@@ -83,7 +83,7 @@ module _ {M : Type 0} (k : Model M) (laws : Laws k) (sh : Shape) (start : List M
     item h = split_found ls key h
 
     splits : (h : is_split ls key ≡ true) → (k.rule (item h).1.part (item h).1.verb).splits ≡ true
-    splits h = (good_item k sh.keys 0 s.split (item h).0 (item h).1 inv.kept.sized.split_good (split_item s.phase s.split (item h).0 (item h).1 (found_at ls key (item h).0 (item h).1 (item h).2).0).0).splits
+    splits h = grind (arith, good_item, found_at)
 
     fit : (h : is_split ls key ≡ true) → AllByRecursion (Fits k sh (item h).1) (around.before ++ (owes w ++ around.behind))
     fit h = subst (AllByRecursion (Fits k sh (item h).1)) around.first (fits_owed k sh start x inv key (item h).0 (item h).1 (item h).2 sh.workers (omega arith))

@@ -1,4 +1,5 @@
 -- Turns that change one row and nothing else: taking, drawing, collecting, acknowledging.
+use Rattle.std.proofs.Common.{rules}
 use Rattle.std.proofs.lemmas.Grind.{common_steps}
 use Rattle.protocol.proofs.Base.{◌≡◌, refl, sym, ap, subst, ◌∙◌, true, false, List, [], ◌∷◌, ◌++◌, ◌⊎◌, ℕ, suc, ◌≤◌, ◌<◌, arith, length, none-some, nth_seam, All-weaker, Option, Some, None, Ok, AllByRecursion}
 use Rattle.protocol.specs.Rules.{Model, ReadAs, Entry, Phase, Joined, Closing, Split, Merging, SplitItem, late, Transaction, Shape, State, Row, row_at, begin, with_current, split_in, Taking, Event, Taken, left_over, drawn, acknowledging, has_ended, World}
@@ -49,9 +50,7 @@ module _ {M : Type 0} (k : Model M) (sh : Shape) (start : List M) (x : World M) 
   draws_ok empty phase = go row.stash (stash_longer [])
     where
       go : (ts : List Transaction) → AllByRecursion (Ready k sh (x.events ++ []) w) ts → To (drawn row ts) [] s.ticket
-      go [] ready = stays_owing k sh start x inv w s.stamps row inside refl (λ key. refl) (nothing row.current empty) (stash_longer []) (inv.kept.rows w).merged refl (λ key. refl)
-      go (t ∷ ts) ready =
-          stays_owing k sh start x inv w s.stamps (drawn row (t ∷ ts)) inside refl (λ key. refl) (begins [] t ready.0) ready.1 (unmerged s.phase _ refl (λ m. absurd (grind arith)) (inv.kept.rows w).merged) refl (λ key. ap (pending k sh ls w key) (sym empty))
+      go ts ready = search (rules, stays_owing)
 
   -- an ended transaction owes nothing
   ended_owes : (ticket : ℕ) (o : Option Transaction) (key : ℕ) → has_ended ticket o ≡ true → pending k sh ls w key o ≡ []

@@ -41,7 +41,7 @@ module _ (ls : List SplitItem) (w : ℕ) (ss : List Stamp) where
   -- the stamps stay, and so does what is held
   pub still : (old new : Option Transaction) → ((key : ℕ) → key < length ss → owned_by (stamp_at ss key).owner w ≡ holds ls old key)
       → ((key : ℕ) → holds ls new key ≡ holds ls old key) → aims ls new ≡ true → Owns ss new
-  still old new held same a = record { same_length = refl; owners = λ key l. (held key l ∙ sym (same key), λ j d. refl); aimed = a }
+  still old new held same a = grind arith
 
   -- one stamp changes
   pub one_owner : (key : ℕ) (f : Stamp → Stamp) (h : Option Transaction) → aims ls h ≡ true → (key < length ss → OwnerOk h key (f (stamp_at ss key)).owner)

@@ -13,7 +13,7 @@ use Rattle.protocol.proofs.Targets.{writes_unsplit}
 -- the version of each record is what it was, or it is the record whose version is revised
 revised_at : (ss : List Stamp) (place i key : ℕ) → let ss' = modify i (revised place) ss in
     ((stamp_at ss' key).version ≡ (stamp_at ss key).version) ⊎ ((key ≡ i) × ((stamp_at ss' key).version ≡ place))
-revised_at ss place i key = grind (arith, nth_getD, nth_past, get_or_past, nth_modify ss i (revised place), nth_modify_other ss i key (revised place), length_modify ss i (revised place))
+revised_at ss place i key = grind (arith, nth_getD, get_or_past, nth_modify, nth_modify_other, length_modify)
 
 -- a record that is held is not split
 holds_unsplit : (ls : List SplitItem) (o : Option Transaction) (key : ℕ) → holds ls o key ≡ true → is_split ls key ≡ false
@@ -40,7 +40,7 @@ module _ {M : Type 0} (k : Model M) (laws : Laws k) (sh : Shape) (start : List M
     good = good_item k sh.keys 0 s.split row.merged l inv.kept.sized.split_good there
 
     split : is_split ls l.key ≡ true
-    split = ap option_is_some (ap (λ p. find_split 0 (split_in p s.split) l.key) phase ∙ good_found k sh.keys s.split row.merged l inv.kept.sized.split_good there)
+    split = grind (arith, good_found)
 
     shard : ShardOk k sh x.table os w row.merged l
     shard = inv.kept.values.shards (λ e. grind arith) w row.merged l inside there

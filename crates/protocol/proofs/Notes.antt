@@ -30,10 +30,10 @@ noted_append (m ∷ ns) n key = let h = noted_append ns n key in grind arith
 module _ (ns : List Note) (key version : ℕ) where
   -- a note keeps what was noted, and notes its key
   pub note_keeps : (other : ℕ) → is_noted ns other ≡ true → is_noted (note ns key version) other ≡ true
-  note_keeps other h = cond_both (is_noted ns key) ns _ (λ ms. is_noted ms other ≡ true) (λ t. h) (λ t. noted_append ns _ other ∙ or_left (is_noted ns other) (eqb key other) h)
+  note_keeps other h = grind (arith, noted_append)
 
   pub note_notes : is_noted (note ns key version) key ≡ true
-  note_notes = cond_both (is_noted ns key) ns _ (λ ms. is_noted ms key ≡ true) (λ t. t) (λ t. noted_append ns _ key ∙ or_right (is_noted ns key) (eqb key key) (eq-eqb key key refl))
+  note_notes = grind (arith, noted_append)
 
   pub note_all : (P : Note → Type 0) → AllByRecursion P ns → P (record { key = key; version = version }) → AllByRecursion P (note ns key version)
   note_all P a p = cond_both (is_noted ns key) ns _ (AllByRecursion P) (λ t. a) (λ t. All-push P ns _ a p)

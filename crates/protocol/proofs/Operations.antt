@@ -68,7 +68,7 @@ module _ {M : Type 0} (k : Model M) where
   mapped_none = mapped_id
 
   pub mapped_append : (os ps : List Operation) (o : Option M) → mapped (apply_all k ps) (mapped (apply_all k os) o) ≡ mapped (apply_all k (os ++ ps)) o
-  mapped_append os ps o = mapped_mapped (apply_all k os) (apply_all k ps) o ∙ mapped_same _ _ (λ x. sym (apply_append os ps x)) o
+  mapped_append os ps o = grind (arith, apply_append)
 
   module _ (w key : ℕ) where
     after_at : (e : Entry) (a : Action) (vs : List M) → nth (after k w e a vs) key ≡ mapped (apply_all k (cond (eqb e.key key) (action_ops w e.part a) [])) (nth vs key)

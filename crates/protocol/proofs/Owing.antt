@@ -105,4 +105,4 @@ module _ {M : Type 0} (k : Model M) (sh : Shape) (start : List M) (x : World M) 
   pub stays_owing : (w : ℕ) (ss : List Stamp) (r : Row) (inside : w < sh.workers) → length ss ≡ length s.stamps → ((key : ℕ) → (stamp_at ss key).version ≡ (stamp_at s.stamps key).version)
       → ((t : Transaction) → r.current ≡ Some t → HandOk k sh ls ss x.table (x.events ++ []) w t) → AllByRecursion (Ready k sh (x.events ++ []) w) r.stash → MergedOk k sh s.phase (length s.split) r
       → r.merged ≡ (row_at s.rows w).merged → ((key : ℕ) → pending k sh ls w key r.current ≡ pending k sh ls w key (row_at s.rows w).current) → Kept k sh start (after k sh start x w s.ticket s.place ss r x.table [])
-  stays_owing w ss r inside len versions = keeps_owing w s.ticket s.place ss r [] inside len versions (omega arith) (past_none k sh start x.events s.ticket s.place inv.kept.past) (ideal_none k sh start x.events)
+  stays_owing w ss r inside len versions h g a b e = search (rules, keeps_owing)

@@ -65,20 +65,20 @@ module _ {M : Type 0} (k : Model M) where
 
   module _ (sh : Shape) (start : List M) (es : List Event) where
     pub ideal_taken : (t : Taking) → ideal k sh start (es ++ (Taken t ∷ [])) ≡ ideal k sh start es
-    ideal_taken t = ap (λ ps. values_by k ps (take sh.keys start)) (those_append placing_in es (Taken t ∷ []) ∙ append-nil (placings es))
+    ideal_taken t = grind (arith, those_append, append-nil)
 
     pub ideal_none : ideal k sh start (es ++ []) ≡ ideal k sh start es
     ideal_none = ap (ideal k sh start) (append-nil es)
 
     pub ideal_placed : (p : Placing) → ideal k sh start (es ++ (Placed p ∷ [])) ≡ (alone k p (ideal k sh start es)).values
-    ideal_placed p = ap (λ ps. values_by k ps (take sh.keys start)) (those_append placing_in es (Placed p ∷ [])) ∙ values_append (placings es) (p ∷ []) (take sh.keys start)
+    ideal_placed p = grind (arith, those_append, values_append)
 
     module _ (ticket place : ℕ) (past : Past k sh start es ticket place) where
       pub past_none : Past k sh start (es ++ []) ticket place
       past_none = subst (λ fs. Past k sh start fs ticket place) (sym (append-nil es)) past
 
       taken_longer : (new : List Event) (i : ℕ) (p : Placing) → nth es i ≡ Some (Placed p) → (j : ℕ) × (u : Taking) × (j < i) × (nth (es ++ new) j ≡ Some (Taken u)) × SameSlip u p
-      taken_longer new i p h = let r = past.as_taken i p h in (r.0, r.1, r.2, nth_longer es new r.0 (Taken r.1) r.3, r.4)
+      taken_longer new i p h = grind (arith, nth_longer)
 
       -- a taking under the next ticket
       pub past_taken : (t : Taking) → t.ticket ≡ suc ticket → ReadAs t.text (Ok t.entries) → Past k sh start (es ++ (Taken t ∷ [])) (suc ticket) place

@@ -115,7 +115,7 @@ module _ {M : Type 0} (k : Model M) (sh : Shape) (start : List M) where
 
     -- what is known of a row's merged shards in a phase
     merged_in : (p : Phase) → s.phase ≡ p → (w : ℕ) → MergedOk k sh p (length s.split) (row_at s.rows w)
-    merged_in p phase w = subst (λ q. MergedOk k sh q (length s.split) (row_at s.rows w)) phase (inv.kept.rows w).merged
+    merged_in p phase w = grind arith
 
     pub splits_ok : (ls : List SplitItem) → s.phase ≡ Joined → good_split k sh.keys ls ≡ true → To Closing ls (map (merging 0) s.rows) (fresh_all k sh.keys sh.workers ls x.table)
     splits_ok ls phase good =
@@ -163,13 +163,4 @@ module _ {M : Type 0} (k : Model M) (sh : Shape) (start : List M) where
       where
         -- a key that is split has been merged by all
         none : (w key : ℕ) → w < sh.workers → ops w key ≡ []
-        none w key u = elim (cases_Bool (is_split split key)) [
-          | inl h ↦
-              let f = split_found split key h in
-              let a = found_at split key f.0 f.1 f.2 in
-              let i = split_item s.phase s.split f.0 f.1 a.0 in
-              let g : s.phase ≡ Merging = grind arith in
-              let m = (merged_in Merging g w).1 (each_done s.rows w done (omega (arith, inv.sound.rows))) in
-              rw (← a.1) (inv.kept.values.merged g w f.0 f.1 u i.0 (omega (arith, nth_within s.split f.0 f.1 i.0)))
-          | inr h ↦ inv.kept.values.unsplit w key u h
-        ]
+        none w key u = grind (arith, split_found, found_at, each_done, nth_within)

@@ -1,4 +1,5 @@
 -- Lists by place: one element changed, the front, and elements of joined lists.
+use Rattle.std.proofs.lemmas.Option.{gets}
 use Rattle.protocol.proofs.Base.{nth_getD, nth_past, get_or_past, length-take, get_or_from_slice_get, take-suc, drop-cons, ◌≡◌, refl, sym, ap, ◌∙◌, List, [], ◌∷◌, ◌++◌, ◌⊎◌, inl, inr, ℕ, zero, suc, ◌<◌, arith, length, get_or, set, take, drop, none-some, same_Some, nth_within, nth_left, get_or-set_same, get_or-set_other, Option, Some, None, mapped, AllByRecursion, nth}
 use Rattle.protocol.specs.Rules.{modify}
 
@@ -20,7 +21,7 @@ module _ {A : Type 0} where
 
   -- lists that agree at a place agree there still
   pub modify_agrees : (xs ys : List A) (i j : ℕ) (f : A → A) → nth xs j ≡ nth ys j → nth (modify i f xs) j ≡ nth (modify i f ys) j
-  modify_agrees xs ys i j f h = grind (arith, nth_modify xs i f, nth_modify ys i f, nth_modify_other xs i j f, nth_modify_other ys i j f)
+  modify_agrees xs ys i j f h = grind (arith, nth_modify, nth_modify_other)
 
   pub length_modify : (xs : List A) (i : ℕ) (f : A → A) → length (modify i f xs) ≡ length xs
   length_modify [] i f = refl
@@ -31,7 +32,7 @@ module _ {A : Type 0} where
   get_or_modify xs i f d h = grind (arith, nth_getD, nth_modify xs i f, length_modify xs i f)
 
   pub get_or_modify_other : (xs : List A) (i j : ℕ) (f : A → A) (d : A) → (j ≡ i → ⊥) → get_or (modify i f xs) j d ≡ get_or xs j d
-  get_or_modify_other xs i j f d h = grind (arith, nth_getD, nth_past, get_or_past, nth_modify_other xs i j f, length_modify xs i f)
+  get_or_modify_other xs i j f d h = grind (arith, nth_getD, get_or_past, nth_modify_other, length_modify)
 
   pub nth_take : (xs : List A) (n i : ℕ) → i < n → nth (take n xs) i ≡ nth xs i
   nth_take xs zero i h = absurd (omega arith)
@@ -40,7 +41,7 @@ module _ {A : Type 0} where
   nth_take (x ∷ xs) (suc n) (suc i) h = nth_take xs n i (omega arith)
 
   pub nth_taken : (xs : List A) (n i : ℕ) (x : A) → nth (take n xs) i ≡ Some x → nth xs i ≡ Some x
-  nth_taken xs n i x h = sym (nth_take xs n i (omega (arith, nth_within (take n xs) i x h, length-take n xs))) ∙ h
+  nth_taken xs n i x h = grind (arith, nth_take, nth_within, length-take)
 
   pub nth_there : (xs : List A) (i : ℕ) → i < length xs → (x : A) × (nth xs i ≡ Some x)
   nth_there [] i h = absurd (omega arith)
@@ -69,10 +70,10 @@ module _ {A : Type 0} where
 
   -- one element more
   pub take_one_more : (xs : List A) (n : ℕ) (x : A) → nth xs n ≡ Some x → take (suc n) xs ≡ take n xs ++ (x ∷ [])
-  take_one_more xs n x h = let l = nth_within xs n x h in let g = get_or_from_slice_get xs n x x h in rw (take-suc xs n x l, g) refl
+  take_one_more xs n x h = grind (arith, gets, take-suc)
 
   pub drop_one_more : (xs : List A) (n : ℕ) (x : A) → nth xs n ≡ Some x → drop n xs ≡ x ∷ drop (suc n) xs
-  drop_one_more xs n x h = let l = nth_within xs n x h in let g = get_or_from_slice_get xs n x x h in rw (drop-cons xs n x l, g) refl
+  drop_one_more xs n x h = grind (arith, gets, drop-cons)
 
   -- what holds of all elements holds of each
   pub all_nth : (P : A → Type 0) (xs : List A) (i : ℕ) (x : A) → AllByRecursion P xs → nth xs i ≡ Some x → P x

@@ -20,10 +20,6 @@ noted_before P ns key version = cond_both (is_noted ns key) ns (ns ++ (record { 
     (λ t a. subst (AllByRecursion P) (take_at ns _ (length ns) refl) (All-take P (length ns) _ a))
 
 module _ {M : Type 0} (k : Model M) (sh : Shape) (ls : List SplitItem) (w : ℕ) where
-  -- a transaction that has no place owes nothing
-  pub unplaced_owes : (key : ℕ) (es : List Entry) (g : Stage) → place_of g ≡ None → pending_at k sh ls w key es g ≡ []
-  unplaced_owes key es g h = grind arith
-
   module _ (ss : List Stamp) (table : List M) (events : List Event) where
     -- all that has to hold of a transaction in a hand, and that it has no place
     abbrev pub Early : Transaction → Type 0
@@ -31,7 +27,7 @@ module _ {M : Type 0} (k : Model M) (sh : Shape) (ls : List SplitItem) (w : ℕ)
 
     module _ (t : Transaction) (ready : Ready k sh events w t) (chosen : AllByRecursion (λ e. strays ls e ≡ false) (ran t)) where
       pub early : (g : Stage) → place_of g ≡ None → StageOk k sh ls ss table w t g → Early (at_stage t g)
-      early g unplaced ok = (record { ready = ready; chosen = chosen; placed = λ p e. absurd (none-some p (sym unplaced ∙ e)); stage = ok }, unplaced)
+      early g unplaced ok = grind arith
 
       -- no entry is left to run: it goes on to lock and to check
       pub locks_on : (from : ℕ) → Faithful k sh ls ss table w t → Finished t → Early (at_stage t (after_running ls (ran t) from))

@@ -124,7 +124,7 @@ module _ {M : Type 0} (k : Model M) (sh : Shape) (start : List M) (x : World M) 
   this_or_other j n m h = grind (arith, good_found, nth_within)
 
   owes_now : (key j : ℕ) → ((j ≡ w) × (owed k sh x'.state now key j ≡ now w key ++ pending k sh ls w key r.current)) ⊎ ((j ≡ w → ⊥) × (owed k sh s ops key j ≡ owed k sh x'.state now key j))
-  owes_now key = owes_then k sh start x inv w s.ticket s.place ss r [] inside now key (λ j d. grind (arith, tells))
+  owes_now key j = search rules
 
   pub values_at : ((p : ℕ) → (p ≡ at → ⊥) → (p ≡ l.key → ⊥) → nth table p ≡ nth x.table p) → ShardOk k sh table os w i l
       → (s.phase ≡ Merging → (n : ℕ) → n < r.merged → ((n ≡ i) × (os ≡ [])) ⊎ ((n ≡ i → ⊥) × (n < (row_at s.rows w).merged)))

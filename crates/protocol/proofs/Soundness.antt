@@ -1,4 +1,5 @@
 -- Every turn keeps what holds of the engine between calls: its locks, its counts, and that whoever has acknowledged rests.
+use Rattle.std.proofs.Common.{rules}
 use Rattle.protocol.proofs.Base.{◌≡◌, refl, sym, ap, ◌∙◌, Bool, true, false, List, [], ◌∷◌, map, ◌⊎◌, inl, inr, ℕ, zero, suc, ◌+◌, ◌≤◌, ◌<◌, ◌^◌, arith, length, set, replicate, get_or_past, length-set, length-map, get_or-replicate, sum_by-cons, tells, Option, Some, None, Ok, Err, nth}
 use Rattle.protocol.specs.Rules.{Model, Phase, Closing, Merging, SplitItem, Stamp, Transaction, Row, Shape, State, idle, row_at, stamp_at, begin, with_current, split_in, first_of, owned_by, Moved, put_back, move, step_row, Call, Take, Draw, Step, Acknowledge, Merge, Collect, AnnounceSplit, AnnounceMerging, Release, next_phase, all_acknowledged, drawn, acknowledging, merging, revised, revise, opened, tests, makes, turn_by, turn, holds, aims, in_row, in_rows, may_rest, Counted, Sound, StaysSound}
 use Rattle.std.proofs.lemmas.List.{length-replicate}
@@ -10,9 +11,6 @@ use Rattle.protocol.proofs.Places.{set_cases}
 use Rattle.protocol.proofs.Weights.{made_weighs}
 
 -- ---- being the owner, as it is said of locks and as a test
-
-owned_so : (o : Option ℕ) (w : ℕ) (b : Bool) → (o ≡ Some w → b ≡ true) × (b ≡ true → o ≡ Some w) → owned_by o w ≡ b
-owned_so o w b h = grind (arith, tells)
 
 locked_so : (o : Option ℕ) (w : ℕ) (b : Bool) → owned_by o w ≡ b → (o ≡ Some w → b ≡ true) × (b ≡ true → o ≡ Some w)
 locked_so o w b e = (λ h. grind (arith, tells), λ h. grind (arith, tells))
@@ -43,7 +41,7 @@ each_done (r ∷ rows) (suc w) h u = each_done rows w (grind arith) (omega arith
 
 -- and no hand has anything
 pub all_empty : (sh : Shape) (s : State) → Sound sh s → all_acknowledged s.rows ≡ true → (w : ℕ) → (row_at s.rows w).current ≡ None
-all_empty sh s sound done w = grind (arith, each_done s.rows w done, sound.resting w, get_or_past s.rows w idle)
+all_empty sh s sound done w = grind (arith, each_done, get_or_past)
 
 -- who has a transaction in hand has not acknowledged, and a step leaves it so
 stepped_rests : {M : Type 0} (p : Phase) (r : Row) (t : Transaction) (m : Moved M) → r.current ≡ Some t → (r.acknowledged ≡ true → may_rest p r ≡ true)
@@ -61,7 +59,7 @@ module _ (sh : Shape) (s : State) (sound : Sound sh s) where
 
   -- its locks, by the test
   was_own : (w key : ℕ) → key < length s.stamps → owned_by (stamp_at s.stamps key).owner w ≡ holds ls (row w).current key
-  was_own w key l = owned_so (stamp_at s.stamps key).owner w (holds ls (row w).current key) (sound.locks key w l)
+  was_own w key l = grind arith
 
   abbrev after : ℕ → ℕ → ℕ → List Stamp → Row → State
   after w ticket place ss r = record { ticket = ticket; place = place; phase = s.phase; split = s.split; stamps = ss; rows = set s.rows w r }
@@ -103,7 +101,7 @@ module _ (sh : Shape) (s : State) (sound : Sound sh s) where
 
   module _ {M : Type 0} (k : Model M) (table : List M) where
     made_counted : (c : Call) → Allowed k sh s table c → Counted (makes k sh s table c).state
-    made_counted c a = let h = made_weighs k sh s table sound.rows c a in omega (arith, h.weight (λ _. 1), h.places, h.tickets, sound.counted)
+    made_counted c a = grind (arith, made_weighs)
 
     step_sound : (w : ℕ) → w < sh.workers → (o : Option Transaction) → (row w).current ≡ o → let m = step_row k sh.keys ls w (row w) s.stamps s.place table o in
         Counted (after w s.ticket m.place m.stamps m.row) → Sound sh (after w s.ticket m.place m.stamps m.row)
@@ -155,4 +153,4 @@ module _ {M : Type 0} (k : Model M) (sh : Shape) where
         go None e = made_sound sh s sound k table c (allowed k sh s table c e)
 
 pub stays_sound_lem : {M : Type 0} (k : Model M) → StaysSound k
-stays_sound_lem k = record { at_first = λ sh low. opened_sound k sh low; after_a_turn = λ sh s table c h. turn_sound k sh s table h c }
+stays_sound_lem k = search (rules, opened_sound, turn_sound)

@@ -29,7 +29,7 @@ module _ {M : Type 0} (k : Model M) (keys : ℕ) where
     pub splits : (k.rule l.part l.verb).splits ≡ true
 
   good_first : (from : ℕ) (l : SplitItem) (ls : List SplitItem) → good_from k keys from (l ∷ ls) ≡ true → Good from l × (good_from k keys (suc l.key) ls ≡ true)
-  good_first from l ls h = (record { low = grind (arith, tells); inside = grind (arith, tells); splits = grind arith }, grind arith)
+  good_first from l ls h = grind arith
 
   pub good_item : (from : ℕ) (ls : List SplitItem) (j : ℕ) (l : SplitItem) → good_from k keys from ls ≡ true → nth ls j ≡ Some l → Good from l
   good_item from [] j l h p = absurd (none-some l p)
@@ -53,4 +53,4 @@ module _ {M : Type 0} (k : Model M) (keys : ℕ) where
 
   -- each item is found under its key
   pub good_found : (ls : List SplitItem) (j : ℕ) (l : SplitItem) → good_from k keys 0 ls ≡ true → nth ls j ≡ Some l → find_split 0 ls l.key ≡ Some (j, l)
-  good_found ls j l h p = let e : 0 + j ≡ j = omega arith in good_found_from 0 0 ls j l h p ∙ ap (λ n. Some (n, l)) e
+  good_found ls j l h p = grind (arith, good_found_from)

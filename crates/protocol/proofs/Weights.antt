@@ -51,7 +51,7 @@ module _ {M : Type 0} (k : Model M) (sh : Shape) (s : State) (table : List M) (f
 
   -- nothing happens
   rows_weigh : (rows : List Row) → ((f : ℕ → ℕ) → in_rows f rows ≤ in_rows f s.rows) → Weighs s rows s.place s.ticket []
-  rows_weigh rows h = record { weight = λ f. omega (arith, h f); places = omega arith; tickets = omega arith }
+  rows_weigh rows h = grind arith
 
   row_weighs : (w : ℕ) → w < sh.workers → (r : Row) → ((f : ℕ → ℕ) → in_row f r ≤ in_row f (row w)) → Weighs s (set s.rows w r) s.place s.ticket []
   row_weighs w l r h = rows_weigh (set s.rows w r) (λ f. omega (arith, set_weighs f s.rows w r 0 0 (omega arith) (omega (arith, h f))))

@@ -73,7 +73,7 @@ module _ {M : Type 0} (k : Model M) (laws : Laws k) (sh : Shape) (start : List M
       ∙ sym (ap (pending k sh ls w key) held ∙ ap (pending_at k sh ls w key (ran t)) writing)
 
   own_before : owed k sh s ops c w ≡ os ++ []
-  own_before = let a = inv.kept.values.unsplit w c inside unsplit in let h = held in let g = writing in let z = append-nil os in grind (arith, tells)
+  own_before = grind (arith, unsplit, append-nil)
 
   at_key : mapped (apply_all k (gathered k sh (owed k sh s ops c) sh.workers)) (nth x.table c) ≡ mapped (apply_all k (gathered k sh (now c) sh.workers)) (nth table c)
   at_key =
