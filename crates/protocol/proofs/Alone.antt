@@ -3,14 +3,14 @@ use Rattle.protocol.proofs.Base.{◌≡◌, refl, sym, ap, subst, ◌∙◌, Boo
 use Rattle.protocol.specs.Rules.{Model, Action, Entry, tells, falls_short, applied, short_at, Alone, ran as alone_ran, peek, Ran, after, serial, Transaction, verb_of, changes, looks}
 use Rattle.serial.proofs.Alone.{short_idle, runs_alone}
 use Rattle.serial.proofs.Steps.{follow}
-use Rattle.protocol.proofs.Places.{some_none, modify_agrees}
+use Rattle.protocol.proofs.Places.{modify_agrees}
 use Rattle.protocol.specs.State.{ran}
 
 peek_agrees : {A : Type 0} (xs ys : List A) (i : ℕ) (f : A → ℤ) → nth xs i ≡ nth ys i → peek i f xs ≡ peek i f ys
 peek_agrees [] [] i f h = refl
 peek_agrees [] (y ∷ ys) zero f h = absurd (none-some y h)
 peek_agrees [] (y ∷ ys) (suc i) f h = peek_agrees [] ys i f h
-peek_agrees (x ∷ xs) [] zero f h = absurd (some_none x h)
+peek_agrees (x ∷ xs) [] zero f h = absurd (none-some x (sym h))
 peek_agrees (x ∷ xs) [] (suc i) f h = peek_agrees xs [] i f h
 peek_agrees (x ∷ xs) (y ∷ ys) zero f h = ap f (same_Some x y h)
 peek_agrees (x ∷ xs) (y ∷ ys) (suc i) f h = peek_agrees xs ys i f h

@@ -1,7 +1,5 @@
 -- Turns that change one row and nothing else: taking, drawing, collecting, acknowledging.
-use Rattle.std.proofs.Common.{rules}
-use Rattle.std.proofs.lemmas.Grind.{common_steps}
-use Rattle.protocol.proofs.Base.{◌≡◌, refl, sym, ap, subst, ◌∙◌, true, false, List, [], ◌∷◌, ◌++◌, ◌⊎◌, ℕ, suc, ◌≤◌, ◌<◌, arith, length, none-some, nth_seam, All-weaker, Option, Some, None, Ok, AllByRecursion}
+use Rattle.protocol.proofs.Base.{◌≡◌, refl, sym, ap, subst, ◌∙◌, true, false, List, [], ◌∷◌, ◌++◌, ◌⊎◌, ℕ, suc, ◌≤◌, ◌<◌, arith, length, none-some, nth_seam, All-weaker, Option, Some, None, Ok, AllByRecursion, common_steps, rules}
 use Rattle.protocol.specs.Rules.{Model, ReadAs, Entry, Phase, Joined, Closing, Split, Merging, SplitItem, late, Transaction, Shape, State, Row, row_at, begin, with_current, split_in, Taking, Event, Taken, left_over, drawn, acknowledging, has_ended, World}
 use Rattle.protocol.proofs.Frames.{ready_longer, after}
 use Rattle.protocol.proofs.Invariant.{Ready, HandOk, MergedOk, pending, Kept, Inv}

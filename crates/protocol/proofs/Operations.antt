@@ -1,8 +1,8 @@
 -- The operations of entries on one key, and what they make of its value.
-use Rattle.protocol.proofs.Base.{◌≡◌, refl, sym, ap, ◌∙◌, true, false, cond, List, [], ◌∷◌, ◌++◌, append_assoc, ℕ, arith, eqb, length, take, drop, take-append-drop, nth_drop, drop-drop, tells, Option, Some, None, mapped, AllByRecursion, nth}
+use Rattle.protocol.proofs.Base.{◌≡◌, refl, sym, ap, ◌∙◌, true, false, cond, List, [], ◌∷◌, ◌++◌, append_assoc, ℕ, arith, eqb, length, take, drop, take-append-drop, nth_drop, drop-drop, tells, Option, Some, None, mapped, AllByRecursion, nth, mapped_id}
 use Rattle.protocol.specs.Rules.{Model, Operation, Action, Entry, applied, after, SplitItem, changes, action_ops, ops_of, ops_on, apply_all, is_split, sharded, next_shard, writes}
 use Rattle.protocol.proofs.Finding.{found, not_found}
-use Rattle.protocol.proofs.Places.{nth_modify, nth_modify_other, length_modify, mapped_id, mapped_mapped, mapped_same}
+use Rattle.protocol.proofs.Places.{nth_modify, nth_modify_other, length_modify, mapped_mapped, mapped_same}
 
 module _ (w key : ℕ) where
   -- what one entry does to the key
@@ -63,10 +63,7 @@ module _ {M : Type 0} (k : Model M) where
   apply_append [] ps x = refl
   apply_append (o ∷ os) ps x = apply_append os ps ((k.rule o.part o.verb).apply o.argument x)
 
-  -- operations on nothing, and on what others left
-  pub mapped_none : (o : Option M) → mapped (apply_all k []) o ≡ o
-  mapped_none = mapped_id
-
+  -- operations on what others left
   pub mapped_append : (os ps : List Operation) (o : Option M) → mapped (apply_all k ps) (mapped (apply_all k os) o) ≡ mapped (apply_all k (os ++ ps)) o
   mapped_append os ps o = grind (arith, apply_append)
 
@@ -76,7 +73,7 @@ module _ {M : Type 0} (k : Model M) where
 
     -- each value has had its own operations
     pub applied_at : (es : List Entry) (vs : List M) → nth (applied k w es vs) key ≡ mapped (apply_all k (ops_on w key es)) (nth vs key)
-    applied_at [] vs = sym (mapped_none (nth vs key))
+    applied_at [] vs = sym (mapped_id (nth vs key))
     applied_at (e ∷ es) vs =
         applied_at es (after k w e e.action vs) ∙ ap (mapped (apply_all k (ops_on w key es))) (after_at e e.action vs)
         ∙ mapped_append (op_on w key e) (ops_on w key es) (nth vs key)

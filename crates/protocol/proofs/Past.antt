@@ -48,7 +48,7 @@ module _ {A : Type 0} (f : Event → Option A) where
 
 -- one number more
 counting_more : (first n : ℕ) → counting first (suc n) ≡ counting first n ++ (first + n) ∷ []
-counting_more first n = sym (map-id (counting first (suc n))) ∙ ap (λ m. map (λ (x : ℕ). x) (counting first m)) (sym (add-one n)) ∙ map_counting_more (λ x. x) first n (first + n) refl ∙ ap (λ ms. ms ++ (first + n) ∷ []) (map-id (counting first n))
+counting_more first n = grind (arith, map_counting_more (λ x. x) first n (first + n) refl, map-id)
 
 -- a list that counts up, with one more
 counted : {A : Type 0} (f : A → ℕ) (first : ℕ) (xs : List A) (x : A) → map f xs ≡ counting first (length xs) → f x ≡ first + length xs → map f (xs ++ x ∷ []) ≡ counting first (length (xs ++ x ∷ []))

@@ -1,15 +1,14 @@
 -- The promise, from what holds of every world that turns lead to.
-use Rattle.std.proofs.Common.{rules}
-use Rattle.protocol.proofs.Base.{◌≡◌, refl, sym, ap, ◌∙◌, Bool, true, cond, not, List, [], ◌∷◌, map, inl, inr, ℕ, zero, suc, ◌+◌, ◌≤◌, ◌<◌, arith, eqb, ℤ, length, take, length-take, none-some, sum_by-cons, get_or-le-sum_by, cases_order, and_parts, eq-eqb, not-true, tells, Option, Some, None, Result, Ok, counting, option_is_some, mapped, sum_by, nth}
+use Rattle.protocol.proofs.Base.{◌≡◌, refl, sym, ap, ◌∙◌, Bool, true, cond, not, List, [], ◌∷◌, map, inl, inr, ℕ, zero, suc, ◌+◌, ◌≤◌, ◌<◌, arith, eqb, ℤ, length, take, length-take, none-some, sum_by-cons, get_or-le-sum_by, cases_order, and_parts, eq-eqb, not-true, tells, Option, Some, None, Result, Ok, counting, option_is_some, mapped, sum_by, nth, rules, mapped_id, folded_map, same_lists, gets}
 use Rattle.protocol.specs.Rules.{Model, Laws, Entry, ran as alone_ran, Outcome, Committed, Conflict, TurnedAway, Phase, Joined, Stage, Ended, Stamp, outcome_code, Transaction, Shape, State, idle, row_at, stamp_at, end_of, place_in, place_of, apply_all, split_in, is_split, Call, Take, Collect, Gave, Taking, Placing, Event, Taken, Placed, quiet, refuse_open, turn, taking_in, placing_in, placings, takings, World, alone, values_by, times_placed, RightlyTold, Kept, Promise, in_row, in_hand}
 use Rattle.serial.proofs.Alone.{runs_alone}
 use Rattle.protocol.proofs.Allowed.{none_is}
 use Rattle.protocol.proofs.Invariant.{taken_weight, Past, owed, ideal, Inv}
-use Rattle.protocol.proofs.Operations.{length_applied, mapped_none}
+use Rattle.protocol.proofs.Operations.{length_applied}
 use Rattle.protocol.proofs.Owing.{gathered_none, unlocked_owes}
 use Rattle.protocol.proofs.Past.{before_later, counted_at}
 use Rattle.protocol.proofs.Phases.{opens_ok}
-use Rattle.protocol.proofs.Places.{nth_take, same_by_nth}
+use Rattle.protocol.proofs.Places.{nth_take}
 use Rattle.protocol.proofs.Turning.{unchanged, run_inv}
 
 ended : (g : Stage) → option_is_some (end_of g) ≡ true → (o : Outcome) × (g ≡ Ended o)
@@ -43,10 +42,6 @@ module _ {M : Type 0} (k : Model M) (sh : Shape) (start : List M) (es : List Eve
 abbrev one : ℕ → ℕ → ℕ
 one n m = cond (eqb m n) 1 0
 
-mapped_weight : (f : ℕ → ℕ) (ts : List Taking) → sum_by (λ (t : Taking). f t.ticket) ts ≡ sum_by f (map (λ (t : Taking). t.ticket) ts)
-mapped_weight f [] = refl
-mapped_weight f (t ∷ ts) = sum_by-cons _ t ts ∙ ap (λ m. f t.ticket + m) (mapped_weight f ts) ∙ sym (sum_by-cons f t.ticket (map (λ (u : Taking). u.ticket) ts))
-
 counts_once : (n first m : ℕ) → (sum_by (one n) (counting first m) ≤ 1) × (n < first → sum_by (one n) (counting first m) ≡ 0)
 counts_once n first zero = (omega arith, λ _. refl)
 counts_once n first (suc m) =
@@ -72,11 +67,11 @@ module _ {M : Type 0} (k : Model M) where
     s = x.state
 
     same_values : s.phase ≡ Joined → quiet s.stamps ≡ true → take sh.keys x.table ≡ ideal k sh start x.events
-    same_values joined free = same_by_nth (take sh.keys x.table) (ideal k sh start x.events) (omega (arith, long, length_by (placings x.events) (take sh.keys start), from)) (λ key l.
+    same_values joined free = same_lists (take sh.keys x.table) (ideal k sh start x.events) (omega (arith, long, length_by (placings x.events) (take sh.keys start), from)) (λ key d l.
         let low : key < sh.keys = omega (arith, long) in
         let none = gathered_none k sh (owed k sh s inv.kept.values.ops key) sh.workers (λ w v.
         unlocked_owes k sh start x inv key w low v (ap (λ (p : Phase). is_split (split_in p s.split) key) joined) (λ e. none-some w (sym (quiet_free s.stamps key free) ∙ e))) in
-        nth_take x.table sh.keys key low ∙ sym (inv.kept.values.values key low ∙ ap (λ os. mapped (apply_all k os) (nth x.table key)) none ∙ mapped_none k (nth x.table key)))
+        grind (arith, gets, nth_take, inv.kept.values.values key low))
       where
         long : length (take sh.keys x.table) ≡ sh.keys
         long = omega (arith, length-take sh.keys x.table, inv.kept.sized.table_len)
@@ -85,7 +80,7 @@ module _ {M : Type 0} (k : Model M) where
         from = omega (arith, length-take sh.keys start, (opens_ok k sh start fine).sized.table_len)
 
     weighs_one : (n : ℕ) → taken_weight (one n) x.events ≤ 1
-    weighs_one n = omega (arith, mapped_weight (one n) (takings x.events), ap (sum_by (one n)) inv.kept.past.each_ticket, (counts_once n sh.first (length (takings x.events))).0)
+    weighs_one n = omega (arith, folded_map (λ (t : Taking). t.ticket) (λ m y. m + one n y) 0 (takings x.events), ap (sum_by (one n)) inv.kept.past.each_ticket, (counts_once n sh.first (length (takings x.events))).0)
 
     -- ---- what collecting tells
 

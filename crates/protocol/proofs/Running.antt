@@ -1,6 +1,5 @@
 -- Steps before the check: an entry runs or is stashed, a record is locked, or the transaction meets a conflict.
-use Rattle.std.proofs.Common.{rules}
-use Rattle.protocol.proofs.Base.{nth_getD, nth_past, get_or_past, ◌≡◌, refl, sym, ap, subst, ◌∙◌, true, false, List, [], ◌∷◌, ◌++◌, append-nil, map, ℕ, zero, suc, ◌<◌, arith, ltb, length, same_Some, none-some, All-push, length-map, cond_both, Option, Some, None, AllByRecursion, nth}
+use Rattle.protocol.proofs.Base.{nth_getD, nth_past, get_or_past, ◌≡◌, refl, sym, ap, subst, ◌∙◌, true, false, List, [], ◌∷◌, ◌++◌, append-nil, map, ℕ, zero, suc, ◌<◌, arith, ltb, length, same_Some, none-some, All-push, length-map, cond_both, Option, Some, None, AllByRecursion, nth, rules, get_or-map, common_steps}
 use Rattle.protocol.specs.Rules.{Model, Entry, applied, modify, Outcome, Conflict, TurnedAway, SplitItem, Running, Locking, Ended, Stamp, Told, Transaction, Row, Shape, State, row_at, stamp_at, place_in, place_of, at_stage, strays, split_in, after_running, lock_for, free_own, clash, reading, Moved, World}
 use Rattle.protocol.proofs.Doing.{moved}
 use Rattle.protocol.proofs.Frames.{faithful_grows, after, merged_step, Goes}
@@ -15,9 +14,7 @@ locked_version : (w i key : ℕ) (ss : List Stamp) → (stamp_at (modify i (lock
 locked_version w i key ss = grind (arith, nth_getD, get_or_past, nth_modify, nth_modify_other, length_modify)
 
 freed_version : (w key : ℕ) (ss : List Stamp) → (stamp_at (map (free_own w) ss) key).version ≡ (stamp_at ss key).version
-freed_version w key [] = refl
-freed_version w zero (st ∷ ss) = refl
-freed_version w (suc key) (st ∷ ss) = freed_version w key ss
+freed_version w key ss = grind (arith, common_steps, get_or-map, get_or_past)
 
 module _ {M : Type 0} (k : Model M) (sh : Shape) (start : List M) (x : World M) (inv : Inv k sh start x) (w : ℕ) (inside : w < sh.workers)
     (t : Transaction) (held : (row_at x.state.rows w).current ≡ Some t) where

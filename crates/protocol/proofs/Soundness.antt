@@ -1,6 +1,5 @@
 -- Every turn keeps what holds of the engine between calls: its locks, its counts, and that whoever has acknowledged rests.
-use Rattle.std.proofs.Common.{rules}
-use Rattle.protocol.proofs.Base.{◌≡◌, refl, sym, ap, ◌∙◌, Bool, true, false, List, [], ◌∷◌, map, ◌⊎◌, inl, inr, ℕ, zero, suc, ◌+◌, ◌≤◌, ◌<◌, ◌^◌, arith, length, set, replicate, get_or_past, length-set, length-map, get_or-replicate, sum_by-cons, tells, Option, Some, None, Ok, Err, nth}
+use Rattle.protocol.proofs.Base.{◌≡◌, refl, sym, ap, ◌∙◌, Bool, true, false, List, [], ◌∷◌, map, ◌⊎◌, inl, inr, ℕ, zero, suc, ◌+◌, ◌≤◌, ◌<◌, ◌^◌, arith, length, set, replicate, get_or_past, length-set, length-map, get_or-replicate, sum_by-cons, tells, Option, Some, None, Ok, Err, nth, rules, sum_by-replicate, get_or-map, common_steps}
 use Rattle.protocol.specs.Rules.{Model, Phase, Closing, Merging, SplitItem, Stamp, Transaction, Row, Shape, State, idle, row_at, stamp_at, begin, with_current, split_in, first_of, owned_by, Moved, put_back, move, step_row, Call, Take, Draw, Step, Acknowledge, Merge, Collect, AnnounceSplit, AnnounceMerging, Release, next_phase, all_acknowledged, drawn, acknowledging, merging, revised, revise, opened, tests, makes, turn_by, turn, holds, aims, in_row, in_rows, may_rest, Counted, Sound, StaysSound}
 use Rattle.std.proofs.lemmas.List.{length-replicate}
 use Rattle.protocol.proofs.Allowed.{Allowed, allowed}
@@ -17,21 +16,12 @@ locked_so o w b e = (λ h. grind (arith, tells), λ h. grind (arith, tells))
 
 -- ---- rows
 
--- as the engine opens, no row has anything
-idle_rows : (n w : ℕ) → row_at (replicate n idle) w ≡ idle
-idle_rows zero w = refl
-idle_rows (suc n) zero = refl
-idle_rows (suc n) (suc w) = idle_rows n w
-
 pub idle_weigh : (f : ℕ → ℕ) (n : ℕ) → in_rows f (replicate n idle) ≡ 0
-idle_weigh f zero = refl
-idle_weigh f (suc n) = omega (arith, sum_by-cons (in_row f) idle (replicate n idle), idle_weigh f n)
+idle_weigh f n = grind (arith, sum_by-replicate)
 
 -- a row of a list where each is changed
 pub row_map : (f : Row → Row) → f idle ≡ idle → (rows : List Row) (w : ℕ) → row_at (map f rows) w ≡ f (row_at rows w)
-row_map f e [] w = sym e
-row_map f e (r ∷ rows) zero = refl
-row_map f e (r ∷ rows) (suc w) = row_map f e rows w
+row_map f e rows w = grind (arith, common_steps, get_or-map, get_or_past)
 
 -- where all have acknowledged, each has
 pub each_done : (rows : List Row) (w : ℕ) → all_acknowledged rows ≡ true → w < length rows → (row_at rows w).acknowledged ≡ true
@@ -138,7 +128,7 @@ module _ (sh : Shape) (s : State) (sound : Sound sh s) where
 
 module _ {M : Type 0} (k : Model M) (sh : Shape) where
   pub opened_sound : sh.first < 2 ^ 64 → Sound sh (opened sh)
-  opened_sound low = grind (arith, length-replicate, get_or-replicate, idle_rows, idle_weigh)
+  opened_sound low = grind (arith, length-replicate, get_or-replicate, get_or_past, idle_weigh)
 
   module _ (s : State) (table : List M) (sound : Sound sh s) where
     -- a turn gives no ticket a place that it does not hold, and holds no more tickets than it takes

@@ -1,7 +1,5 @@
 -- Every turn of every run keeps the invariant.
-use Rattle.std.proofs.lemmas.Grind.{common_steps}
-use Rattle.std.proofs.Common.{rules}
-use Rattle.protocol.proofs.Base.{◌≡◌, refl, sym, subst, ◌∙◌, true, List, [], ◌++◌, append-nil, ℕ, ◌<◌, ◌^◌, arith, ℤ, false≢true, Option, Some, None, Result}
+use Rattle.protocol.proofs.Base.{◌≡◌, refl, sym, subst, ◌∙◌, true, List, [], ◌++◌, append-nil, ℕ, ◌<◌, ◌^◌, arith, ℤ, false≢true, Option, Some, None, Result, common_steps, rules}
 use Rattle.protocol.specs.Rules.{Model, Laws, ReadAs, Entry, SplitItem, first_of, Transaction, Shape, State, row_at, split_in, Moved, step_row, Call, Take, Draw, Step, Acknowledge, Merge, Collect, AnnounceSplit, AnnounceMerging, Release, Event, Made, Refused, left_in, runs, refuse_open, tests, merges, makes, turn_by, turn, World, Lawful, Runs, opens, refuses, Unchanged}
 use Rattle.protocol.proofs.Allowed.{allowed}
 use Rattle.protocol.proofs.Committing.{places_ok}

@@ -1,6 +1,5 @@
 -- The tickets that have no place: what a turn adds to them, and what it takes from them.
-use Rattle.std.proofs.lemmas.Grind.{common_steps}
-use Rattle.protocol.proofs.Base.{◌≡◌, List, [], ℕ, ◌+◌, ◌≤◌, ◌<◌, arith, length, set, sum_by_push, sum_by-set, Option, Some, None}
+use Rattle.protocol.proofs.Base.{◌≡◌, List, [], ℕ, ◌+◌, ◌≤◌, ◌<◌, arith, length, set, sum_by_push, sum_by-set, Option, Some, None, common_steps}
 use Rattle.protocol.specs.Rules.{Model, SplitItem, Stamp, Transaction, Row, Shape, State, idle, row_at, split_in, Moved, put_back, step_row, Call, Event, drawn, makes, in_row, in_rows}
 use Rattle.protocol.proofs.Allowed.{Allowed}
 use Rattle.protocol.proofs.Doing.{Does, rests, reads, strays_off, clashes, locks, places, writes_on, shards, does}
