@@ -23,23 +23,7 @@ pub record Over (entries : List Entry) (done : ℕ) (skipped : Option ℕ) : Typ
 abbrev pub Finished : Transaction → Type 0
 Finished t = Over t.entries t.done t.skipped
 
-module _ {M : Type 0} where
-  -- an entry that tells z, and then the rest, unless it falls short
-  abbrev one : Bool → ℕ → List M → List ℤ → Ran M → Ran M
-  one short i us z rest = cond short (record { values = us; answers = z; skipped = Some i }) (follow z rest)
-
 module _ {M : Type 0} (k : Model M) (w : ℕ) where
-  serial_first : (i : ℕ) (e : Entry) (es : List Entry) (vs : List M)
-      → serial k w i (e ∷ es) vs ≡ one (falls_short k e e.action vs) i (after k w e e.action vs) (tells k e e.action vs) (serial k w (suc i) es (after k w e e.action vs))
-  serial_first i e es vs = grind arith
-
-  -- what an entry tells goes by the record that it looks at
-  tells_agrees : (e : Entry) (a : Action) (us vs : List M) → (option_is_some (verb_of a) ≡ false → nth us e.key ≡ nth vs e.key) → tells k e a us ≡ tells k e a vs
-  tells_agrees e a us vs h = grind (arith, peek_agrees us vs e.key)
-
-  falls_agrees : (e : Entry) (a : Action) (us vs : List M) → (option_is_some (verb_of a) ≡ false → nth us e.key ≡ nth vs e.key) → falls_short k e a us ≡ falls_short k e a vs
-  falls_agrees e a us vs h = grind (arith, peek_agrees us vs e.key)
-
   after_agrees : (e : Entry) (a : Action) (us vs : List M) (key : ℕ) → nth us key ≡ nth vs key → nth (after k w e a us) key ≡ nth (after k w e a vs) key
   after_agrees e a us vs key h = grind (arith, modify_agrees us vs e.key key)
 
@@ -57,46 +41,21 @@ module _ {M : Type 0} (k : Model M) (w : ℕ) where
   serial_agrees : (i : ℕ) (es : List Entry) (us vs : List M) → Agree es us vs
       → ((serial k w i es us).answers ≡ (serial k w i es vs).answers) × ((serial k w i es us).skipped ≡ (serial k w i es vs).skipped)
   serial_agrees i [] us vs h = (refl, refl)
-  serial_agrees i (e ∷ es) us vs h =
-      let look : changes e ≡ false → nth us e.key ≡ nth vs e.key = λ c. h.0 (not_from_false (changes e) c) in
-      let rest = serial_agrees (suc i) es (after k w e e.action us) (after k w e e.action vs) (agree_after e es us vs h.1) in
-      let a = falls_agrees e e.action us vs look in
-      let b = tells_agrees e e.action us vs look in
-      let p = serial_first i e es us in
-      let q = serial_first i e es vs in
-      rw (p, q) (grind arith)
+  serial_agrees i (e ∷ es) us vs h = grind (arith, serial_agrees (suc i) es, agree_after e es us vs, peek_agrees us vs e.key)
 
   pub gives_agrees : (es : List Entry) (us vs : List M) (zs : List ℤ) (skipped : Option ℕ) → Agree es us vs → Gives es vs zs skipped → Gives es us zs skipped
-  gives_agrees es us vs zs skipped h g = let a = serial_agrees 0 es us vs h in (a.0 ∙ g.0, a.1 ∙ g.1)
+  gives_agrees es us vs zs skipped h g = grind (arith, serial_agrees)
 
   -- behind entries that skip nothing the next ones go on
   serial_more : (i : ℕ) (es fs : List Entry) (vs : List M) → (serial k w i es vs).skipped ≡ None
       → serial k w i (es ++ fs) vs ≡ follow (serial k w i es vs).answers (serial k w (i + length es) fs (applied k w es vs))
   serial_more i [] fs vs h = let e : i ≡ i + 0 = omega arith in ap (λ n. serial k w n fs vs) e
-  serial_more i (e ∷ es) fs vs h =
-      let us = after k w e e.action vs in
-      let p = serial_first i e es vs in
-      let q = serial_first i e (es ++ fs) vs in
-      let g = ap (λ (x : Ran M). x.skipped) (sym p) ∙ h in
-      let n : suc i + length es ≡ i + suc (length es) = omega arith in
-      let r = serial_more (suc i) es fs us in
-      let rest = serial k w (i + suc (length es)) fs (applied k w es us) in
-      let c = append_assoc (tells k e e.action vs) (serial k w (suc i) es us).answers rest.answers in
-      rw (q, p) (grind arith)
+  serial_more i (e ∷ es) fs vs h = let r = serial_more (suc i) es fs (after k w e e.action vs) in grind (arith, append_assoc)
 
   -- and behind a skip nothing is done
   serial_stops : (i : ℕ) (es fs : List Entry) (vs : List M) (j : ℕ) → (serial k w i es vs).skipped ≡ Some j → serial k w i (es ++ fs) vs ≡ serial k w i es vs
   serial_stops i [] fs vs j h = absurd (none-some j h)
-  serial_stops i (e ∷ es) fs vs j h =
-      let p = serial_first i e es vs in
-      let q = serial_first i e (es ++ fs) vs in
-      let g = ap (λ (x : Ran M). x.skipped) (sym p) ∙ h in
-      let r = serial_stops (suc i) es fs (after k w e e.action vs) j in
-      rw (q, p) (grind arith)
-
-  -- one entry more
-  last : (b : Bool) (n : ℕ) (us : List M) (z : List ℤ) → ((one b n us z (record { values = us; answers = []; skipped = None })).answers ≡ z) × ((one b n us z (record { values = us; answers = []; skipped = None })).skipped ≡ cond b (Some n) None)
-  last b n us z = grind (arith, append-nil z)
+  serial_stops i (e ∷ es) fs vs j h = let r = serial_stops (suc i) es fs (after k w e e.action vs) j in grind arith
 
   pub gives_more : (es : List Entry) (e : Entry) (vs : List M) (zs : List ℤ) → Gives es vs zs None
       → Gives (es ++ (e ∷ [])) vs (zs ++ tells k e e.action (applied k w es vs)) (cond (falls_short k e e.action (applied k w es vs)) (Some (length es)) None)

@@ -10,7 +10,7 @@ use Rattle.protocol.proofs.Splits.{split_found, found_at, good_item}
 -- what holds of all of a joined list holds of its two parts
 pub all_parts : {A : Type 0} (P : A → Type 0) (xs ys : List A) → AllByRecursion P (xs ++ ys) → AllByRecursion P xs × AllByRecursion P ys
 all_parts P [] ys h = (tt, h)
-all_parts P (x ∷ xs) ys h = let r = all_parts P xs ys h.1 in ((h.0, r.0), r.1)
+all_parts P (x ∷ xs) ys h = grind (arith, all_parts P xs ys h.1)
 
 module _ {M : Type 0} (k : Model M) (laws : Laws k) (sh : Shape) (l : SplitItem) (splits : (k.rule l.part l.verb).splits ≡ true) where
   abbrev rule : Rule M
@@ -19,22 +19,13 @@ module _ {M : Type 0} (k : Model M) (laws : Laws k) (sh : Shape) (l : SplitItem)
   abbrev does : Operation → M → M
   does o x = (k.rule o.part o.verb).apply o.argument x
 
-  split : T rule.splits
-  split = subst T (sym splits) tt
-
-  taken : (o : Operation) → Fits k sh l o → T (rule.takes o.argument)
-  taken o f = subst T (sym f.2 ∙ (λ i. (k.rule (f.0 i) (f.1 i)).takes o.argument)) tt
-
-  two_commute : (o p : Operation) (x : M) → Fits k sh l o → Fits k sh l p → does o (does p x) ≡ does p (does o x)
-  two_commute o p x f g = grind arith
-
   one_through : (o : Operation) (os : List Operation) (x : M) → Fits k sh l o → AllByRecursion (Fits k sh l) os → apply_all k os (does o x) ≡ does o (apply_all k os x)
   one_through o [] x f g = refl
-  one_through o (p ∷ os) x f g = ap (apply_all k os) (two_commute p o x g.0 f) ∙ one_through o os (does p x) f g.1
+  one_through o (p ∷ os) x f g = grind (arith, one_through o os)
 
   lists_commute : (os ps : List Operation) (x : M) → AllByRecursion (Fits k sh l) os → AllByRecursion (Fits k sh l) ps → apply_all k ps (apply_all k os x) ≡ apply_all k os (apply_all k ps x)
   lists_commute [] ps x f g = refl
-  lists_commute (o ∷ os) ps x f g = lists_commute os ps (does o x) f.1 g ∙ ap (apply_all k os) (one_through o ps x f.0 g)
+  lists_commute (o ∷ os) ps x f g = grind (arith, lists_commute os ps, one_through)
 
   -- some of many may be done first, or last
   apply_first : (before os rest behind : List Operation) (x : M) → AllByRecursion (Fits k sh l) before → AllByRecursion (Fits k sh l) os
@@ -48,10 +39,7 @@ module _ {M : Type 0} (k : Model M) (laws : Laws k) (sh : Shape) (l : SplitItem)
   -- what was done to a shard is done by merging it
   merge_applied : (os : List Operation) (y x : M) → AllByRecursion (Fits k sh l) os → rule.merge (apply_all k os y) x ≡ apply_all k os (rule.merge y x)
   merge_applied [] y x f = refl
-  merge_applied (o ∷ os) y x f =
-      let a = (laws.lawful l.part l.verb).passes o.argument y x split (taken o f.0) in
-      let b = merge_applied os (does o y) x f.1 in
-      cc
+  merge_applied (o ∷ os) y x f = grind (arith, merge_applied os, laws.lawful)
 
   -- a shard that began fresh, merged, is its operations
   pub merge_all : (os : List Operation) (base x : M) → AllByRecursion (Fits k sh l) os

@@ -37,11 +37,8 @@ module _ {M : Type 0} (k : Model M) (sh : Shape) where
 
     -- and so does all that holds of a transaction, if what it has locked keeps its versions
     module _ (es new : List Event) (locked : (key : ℕ) → key < sh.keys → holds_at ls (ran t) key t.stage ≡ true → (stamp_at ss' key).version ≡ (stamp_at ss key).version) where
-      stage_grows : (a : Stage) → t.stage ≡ a → StageOk k sh ls ss table w t a → StageOk k sh ls ss' table' w t a
-      stage_grows a e h = grind (arith, faithful_grows)
-
       pub hand_grows : HandOk k sh ls ss table es w t → HandOk k sh ls ss' table' (es ++ new) w t
-      hand_grows h = grind (arith, nth_longer, stage_grows)
+      hand_grows h = grind (arith, nth_longer, faithful_grows)
 
 module _ {M : Type 0} (k : Model M) (sh : Shape) (start : List M) (x : World M) (w ticket place : ℕ) (ss : List Stamp) (r : Row) (table : List M) (new : List Event) where
   abbrev s : State

@@ -11,9 +11,6 @@ use Rattle.protocol.proofs.Phases.{opens_ok}
 use Rattle.protocol.proofs.Places.{nth_take}
 use Rattle.protocol.proofs.Turning.{unchanged, run_inv}
 
-ended : (g : Stage) → option_is_some (end_of g) ≡ true → (o : Outcome) × (g ≡ Ended o)
-ended g h = grind arith
-
 -- ---- in time
 
 module _ {M : Type 0} (k : Model M) (sh : Shape) (start : List M) (es : List Event) (ticket place : ℕ) (past : Past k sh start es ticket place) where
@@ -107,15 +104,10 @@ module _ {M : Type 0} (k : Model M) where
     pub kept : Kept k sh start x
     kept = search (rules, same_values, in_time, times_one, as_collected)
 
--- ---- takings
-
-module _ {M : Type 0} (k : Model M) (sh : Shape) (s : State) (lent : List M) where
-  of_takings : (w : ℕ) (text : List ℕ) (q : Result (List Entry) (List ℕ)) (c : List ℕ) (zs : List ℤ) → (turn k sh s lent (Take w text q)).answer ≡ Gave c zs
-      → (n : ℕ) × (es : List Entry) × (c ≡ n ∷ []) × (q ≡ Ok es) × ((turn k sh s lent (Take w text q)).events ≡ Taken (record { ticket = n; worker = w; text = text; entries = es }) ∷ [])
-  of_takings w text q c zs h = grind arith
-
-  of_others : (c : Call) (t : Taking) (i : ℕ) → nth (turn k sh s lent c).events i ≡ Some (Taken t) → c ≡ Take t.worker t.text (Ok t.entries)
-  of_others c t i h = grind arith
-
 pub promised : {M : Type 0} (k : Model M) → Laws k → Promise k
-promised k laws = search (rules, kept, run_inv, unchanged, of_takings, of_others)
+promised k laws = record {
+  of_runs = λ sh start x fine low runs. kept k sh start fine x (run_inv k laws sh start fine low x runs);
+  of_refusals = λ sh s lent c code. unchanged k sh s lent code c;
+  of_takings = λ sh s lent w text q c zs h. grind arith;
+  of_others = λ sh s lent c t i h. grind arith;
+}

@@ -20,9 +20,6 @@ use Rattle.protocol.specs.Turns.{placings, takes}
 
 -- a refused turn changes nothing
 module _ {M : Type 0} (k : Model M) (sh : Shape) (s : State) (lent : List M) (code : List ℕ) where
-  abbrev Same : Made M → Type 0
-  Same m = (m.state ≡ s) × (m.table ≡ lent) × ((buffer : List ℤ) → left_in buffer m.answer ≡ buffer) × (m.events ≡ [])
-
   pub unchanged : (c : Call) → (turn k sh s lent c).answer ≡ Refused code → Unchanged k sh s lent c
   unchanged c h = grind arith
 
@@ -81,11 +78,8 @@ module _ {M : Type 0} (k : Model M) (laws : Laws k) (sh : Shape) (start : List M
     turn_fine : (c : Call) → Lawful c → (o : Option (List ℕ)) → first_of (tests k sh s x.table c) ≡ o → Fine (turn_by k sh s x.table c o)
     turn_fine c r o h = grind (arith, common_steps, makes_fine)
 
-    weighed_after : (c : Call) → Weighed (x.events ++ (turn k sh s x.table c).events) (turn k sh s x.table c).state.rows
-    weighed_after c = grind (arith, weight_append, weighs)
-
     turn_inv : (c : Call) → Lawful c → Inv k sh start (then x (turn k sh s x.table c))
-    turn_inv c r = search (rules, turn_sound, weighed_after, turn_fine)
+    turn_inv c r = record { sound = turn_sound k sh s x.table inv.sound c; weighed = λ f. grind (arith, weight_append, weighs); kept = turn_fine c r (first_of (tests k sh s x.table c)) refl }
 
   -- what holds of every world that a run leads to
   pub run_inv : refuse_open k sh start ≡ None → sh.first < 2 ^ 64 → (x : World M) → Runs k sh start x → Inv k sh start x

@@ -62,11 +62,7 @@ module _ {M : Type 0} (k : Model M) (sh : Shape) (s : State) (table : List M) (f
   hand_weighs w l (Some t) e =
       let d = does k sh.keys ls w s.stamps s.place table t in
       let c = step_counts k sh.keys ls w s.stamps s.place table t d in
-      record {
-        weight = λ f. set_weighs f s.rows w _ _ _ (omega arith) (step_weighs k sh.keys ls w s.stamps s.place table t f (row w) e d);
-        places = c.0;
-        tickets = omega (arith, c.1);
-      }
+      record { weight = λ f. set_weighs f s.rows w _ _ _ (omega arith) (step_weighs k sh.keys ls w s.stamps s.place table t f (row w) e d); places = c.0; tickets = omega (arith, c.1) }
 
   pub made_weighs : (c : Call) → Allowed k sh s table c → let m = makes k sh s table c in Weighs s m.state.rows m.state.place m.state.ticket m.events
   made_weighs c a = grind (arith, common_steps, drawn_weighs, hand_weighs)
