@@ -19,12 +19,12 @@ module _ (test : Entry → Bool) where
     | inl t ↦ record { number = 0; entry = e; counted = grind arith; there = refl; passes = t; before = tt }
     | inr t ↦
         let r = found (suc i) es j (grind arith) in
-        record { number = suc r.number; entry = r.entry; counted = let c = r.counted in omega arith; there = r.there; passes = r.passes; before = (t, r.before) }
+        record { number = suc r.number; entry = r.entry; counted = omega (arith, r.counted); there = r.there; passes = r.passes; before = (t, r.before) }
   ]
 
   pub not_found : (i : ℕ) (es : List Entry) → first_entry test i es ≡ None → AllByRecursion (λ e. test e ≡ false) es
   not_found i [] h = tt
-  not_found i (e ∷ es) h = (grind arith, not_found (suc i) es (grind arith))
+  not_found i (e ∷ es) h = grind (arith, not_found (suc i) es)
 
 -- entries that passed the tests of a taking have records, and the kind takes them
 pub admitted : {M : Type 0} (k : Model M) (keys w : ℕ) (es : List Entry) → late k keys w es ≡ None → AllByRecursion (λ e. (e.key < keys) × (takes k w e e.action ≡ true)) es

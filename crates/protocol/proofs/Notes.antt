@@ -13,15 +13,12 @@ module _ (ss : List Stamp) (w : ℕ) where
 
   pub no_conflict : (ns : List Note) → first_conflict ss w ns ≡ None → AllByRecursion Current ns
   no_conflict [] h = tt
-  no_conflict (n ∷ ns) h = (grind (arith, tells), no_conflict ns (grind arith))
+  no_conflict (n ∷ ns) h = grind (arith, tells, no_conflict ns)
 
 -- what holds of all notes holds of that on a noted key
 pub noted_has : (P : Note → Type 0) (ns : List Note) (key : ℕ) → AllByRecursion P ns → is_noted ns key ≡ true → (version : ℕ) × P (record { key = key; version = version })
 noted_has P [] key a h = absurd (false≢true h)
-noted_has P (n ∷ ns) key a h = elim (or_cases (eqb n.key key) (is_noted ns key) h) [
-  | inl p ↦ (n.version, subst (λ j. P (record { key = j; version = n.version })) (eqb-true n.key key p) a.0)
-  | inr p ↦ noted_has P ns key a.1 p
-]
+noted_has P (n ∷ ns) key a h = elim (or_cases (eqb n.key key) (is_noted ns key) h) [ inl p ↦ (n.version, grind (arith, tells)) | inr p ↦ noted_has P ns key a.1 p ]
 
 noted_append : (ns : List Note) (n : Note) (key : ℕ) → is_noted (ns ++ (n ∷ [])) key ≡ (is_noted ns key || eqb n.key key)
 noted_append [] n key = grind arith
@@ -36,4 +33,4 @@ module _ (ns : List Note) (key version : ℕ) where
   note_notes = grind (arith, noted_append)
 
   pub note_all : (P : Note → Type 0) → AllByRecursion P ns → P (record { key = key; version = version }) → AllByRecursion P (note ns key version)
-  note_all P a p = cond_both (is_noted ns key) ns _ (AllByRecursion P) (λ t. a) (λ t. All-push P ns _ a p)
+  note_all P a p = grind (arith, All-push)

@@ -5,34 +5,20 @@ use Rattle.protocol.proofs.Finding.{found, not_found}
 use Rattle.protocol.proofs.Places.{nth_modify, nth_modify_other, length_modify, mapped_mapped, mapped_same}
 
 module _ (w key : ℕ) where
-  -- what one entry does to the key
-  abbrev pub op_on : Entry → List Operation
-  op_on e = cond (eqb e.key key) (ops_of w e) []
-
   pub ops_on_append : (es fs : List Entry) → ops_on w key (es ++ fs) ≡ ops_on w key es ++ ops_on w key fs
   ops_on_append [] fs = refl
-  ops_on_append (e ∷ es) fs = ap (λ r. op_on e ++ r) (ops_on_append es fs) ∙ sym (append_assoc (op_on e) (ops_on w key es) (ops_on w key fs))
-
-  -- an entry that changes nothing, or another key
-  pub no_op : (e : Entry) → (changes e ≡ true → e.key ≡ key → ⊥) → op_on e ≡ []
-  no_op e h = grind arith
+  ops_on_append (e ∷ es) fs = grind (arith, ops_on_append es, append_assoc)
 
   module _ (ls : List SplitItem) where
     -- a key that is not split and that no entry writes has no operation
     pub no_writes : (es : List Entry) → is_split ls key ≡ false → writes ls es key ≡ false → ops_on w key es ≡ []
     no_writes [] s h = refl
-    no_writes (e ∷ es) s h =
-        let a : op_on e ≡ [] = no_op e (λ c d. let t : is_split ls e.key ≡ false = ap (is_split ls) d ∙ s in grind (arith, tells)) in
-        let b = no_writes es s (grind (arith, tells)) in
-        cc
+    no_writes (e ∷ es) s h = grind (arith, no_writes es)
 
     -- entries with no operation on any split key
     no_shards : (es : List Entry) → is_split ls key ≡ true → AllByRecursion (λ e. sharded ls e ≡ false) es → ops_on w key es ≡ []
     no_shards [] s h = refl
-    no_shards (e ∷ es) s h =
-        let a : op_on e ≡ [] = no_op e (λ c d. let t : is_split ls e.key ≡ true = ap (is_split ls) d ∙ s in let u = h.0 in grind (arith, tells)) in
-        let b = no_shards es s h.1 in
-        cc
+    no_shards (e ∷ es) s h = grind (arith, no_shards es s h.1)
 
     -- what is said of the next entry with an operation on a split key, from a number on
     abbrev pub NextShard : List Entry → ℕ → Option ℕ → Type 0
@@ -46,17 +32,12 @@ module _ (w key : ℕ) where
         go None h = no_shards (drop from es) s (not_found (sharded ls) from (drop from es) h)
         go (Some j) h =
             let f = found (sharded ls) from (drop from es) j h in
-            let n = f.number in
-            ap (ops_on w key) (sym (take-append-drop n (drop from es)))
-            ∙ ops_on_append (take n (drop from es)) (drop n (drop from es))
-            ∙ ap (λ os. os ++ ops_on w key (drop n (drop from es))) (no_shards (take n (drop from es)) s f.before)
-            ∙ ap (ops_on w key) (drop-drop n from es ∙ ap (λ m. drop m es) (sym f.counted))
+            let n = no_shards (take f.number (drop from es)) s f.before in
+            grind (arith, ops_on_append, take-append-drop f.number (drop from es), drop-drop f.number from es)
 
 -- the next entry with an operation on a split key is one
 pub next_sharded : (ls : List SplitItem) (es : List Entry) (from j : ℕ) → next_shard ls from es ≡ Some j → (e : Entry) × (nth es j ≡ Some e) × (sharded ls e ≡ true)
-next_sharded ls es from j h =
-    let f = found (sharded ls) from (drop from es) j h in
-    (f.entry, ap (nth es) f.counted ∙ sym (nth_drop from es f.number) ∙ f.there, f.passes)
+next_sharded ls es from j h = let f = found (sharded ls) from (drop from es) j h in (f.entry, grind (arith, nth_drop), f.passes)
 
 module _ {M : Type 0} (k : Model M) where
   pub apply_append : (os ps : List Operation) (x : M) → apply_all k (os ++ ps) x ≡ apply_all k ps (apply_all k os x)
@@ -74,13 +55,8 @@ module _ {M : Type 0} (k : Model M) where
     -- each value has had its own operations
     pub applied_at : (es : List Entry) (vs : List M) → nth (applied k w es vs) key ≡ mapped (apply_all k (ops_on w key es)) (nth vs key)
     applied_at [] vs = sym (mapped_id (nth vs key))
-    applied_at (e ∷ es) vs =
-        applied_at es (after k w e e.action vs) ∙ ap (mapped (apply_all k (ops_on w key es))) (after_at e e.action vs)
-        ∙ mapped_append (op_on w key e) (ops_on w key es) (nth vs key)
-
-  length_after : (w : ℕ) (e : Entry) (a : Action) (vs : List M) → length (after k w e a vs) ≡ length vs
-  length_after w e a vs = grind (arith, length_modify vs e.key)
+    applied_at (e ∷ es) vs = grind (arith, applied_at es, after_at, mapped_append)
 
   pub length_applied : (w : ℕ) (es : List Entry) (vs : List M) → length (applied k w es vs) ≡ length vs
   length_applied w [] vs = refl
-  length_applied w (e ∷ es) vs = length_applied w es (after k w e e.action vs) ∙ length_after w e e.action vs
+  length_applied w (e ∷ es) vs = grind (arith, length_applied w es, length_modify)

@@ -9,19 +9,16 @@ use Rattle.protocol.proofs.Past.{ideal_none, past_none}
 module _ {M : Type 0} (k : Model M) (sh : Shape) where
   pub gathered_same : (f g : ℕ → List Operation) (n : ℕ) → ((j : ℕ) → j < n → f j ≡ g j) → gathered k sh f n ≡ gathered k sh g n
   gathered_same f g zero same = refl
-  gathered_same f g (suc n) same = λ i. same n (omega arith) i ++ gathered_same f g n (λ j l. same j (omega arith)) i
+  gathered_same f g (suc n) same = grind (arith, gathered_same f g n)
 
   pub gathered_none : (f : ℕ → List Operation) (n : ℕ) → ((j : ℕ) → j < n → f j ≡ []) → gathered k sh f n ≡ []
   gathered_none f zero none = refl
-  gathered_none f (suc n) none = λ i. none n (omega arith) i ++ gathered_none f n (λ j l. none j (omega arith)) i
+  gathered_none f (suc n) none = grind (arith, gathered_none f n)
 
   -- where the others have nothing
   pub gathered_one : (f : ℕ → List Operation) (n w : ℕ) → w < n → ((j : ℕ) → j < n → (j ≡ w → ⊥) → f j ≡ []) → gathered k sh f n ≡ f w
   gathered_one f zero w h none = absurd (omega arith)
-  gathered_one f (suc n) w h none = elim (cases_eq w n) [
-    | inl e ↦ let z = gathered_none f n (λ j l. none j (omega arith) (λ (d : j ≡ w). omega arith)) in rw (z, append-nil, e) refl
-    | inr e ↦ let z = none n (omega arith) (λ d. e (sym d)) in rw z (gathered_one f n w (omega arith) (λ j l. none j (omega arith)))
-  ]
+  gathered_one f (suc n) w h none = grind (arith, gathered_none f n, gathered_one f n w, append-nil)
 
   -- what two that differ at one worker have before and behind it
   pub record Around (f g : ℕ → List Operation) (n w : ℕ) : Type 0 where
@@ -33,13 +30,10 @@ module _ {M : Type 0} (k : Model M) (sh : Shape) where
   pub gathered_at : (f g : ℕ → List Operation) (n w : ℕ) → w < n → ((j : ℕ) → j < n → (j ≡ w → ⊥) → f j ≡ g j) → Around f g n w
   gathered_at f g zero w h same = absurd (omega arith)
   gathered_at f g (suc n) w h same = elim (cases_eq w n) [
-    | inl e ↦
-        let r = gathered_same f g n (λ j l. same j (omega arith) (λ (d : j ≡ w). omega arith)) in
-        record { before = []; behind = gathered k sh f n; first = rw e refl; second = rw (e, r) refl }
+    | inl e ↦ record { before = []; behind = gathered k sh f n; first = grind arith; second = grind (arith, gathered_same f g n) }
     | inr e ↦
-        let s = same n (omega arith) (λ d. e (sym d)) in
         let r = gathered_at f g n w (omega arith) (λ j l d. same j (omega arith) d) in
-        record { before = f n ++ r.before; behind = r.behind; first = rw r.first (sym (append_assoc (f n) r.before _)); second = rw (r.second, ← s) (sym (append_assoc (f n) r.before _)) }
+        record { before = f n ++ r.before; behind = r.behind; first = grind (arith, append_assoc); second = grind (arith, append_assoc, same n) }
   ]
 
   -- on a record that is not split only who holds it owes something
@@ -77,8 +71,8 @@ module _ {M : Type 0} (k : Model M) (sh : Shape) (start : List M) (x : World M) 
         record {
           ops = v.ops;
           unsplit = v.unsplit;
-          shards = λ p j i l a b. let h = v.shards p j i l a b in record { base = h.base; holds = kept (shard_at sh.keys j i) (omega arith) ∙ h.holds; fit = h.fit };
-          merged = λ p j i l a b c. v.merged p j i l a b (subst (λ n. i < n) (merges j) c);
+          shards = λ p j i l a b. let h = v.shards p j i l a b in grind (arith, kept);
+          merged = λ p j i l a b c. v.merged p j i l a b (omega (arith, merges j));
           values = values;
         }
 

@@ -5,37 +5,28 @@ use Rattle.protocol.proofs.Invariant.{Live, HasPlace, Past, ideal}
 use Rattle.protocol.proofs.Places.{nth_push, nth_longer}
 
 module _ {A : Type 0} (f : Event → Option A) where
-  skip_append : (o : Option A) (xs ys : List A) → or_skip o (xs ++ ys) ≡ or_skip o xs ++ ys
-  skip_append o xs ys = grind arith
-
   pub those_append : (es ds : List Event) → those f (es ++ ds) ≡ those f es ++ those f ds
   those_append [] ds = refl
-  those_append (e ∷ es) ds = ap (or_skip (f e)) (those_append es ds) ∙ skip_append (f e) (those f es) (those f ds)
+  those_append (e ∷ es) ds = grind (arith, those_append es)
 
   pub weight_append : (g : A → ℕ) (es ds : List Event) → sum_by g (those f (es ++ ds)) ≡ sum_by g (those f es) + sum_by g (those f ds)
-  weight_append g es ds = ap (sum_by g) (those_append es ds) ∙ sum_by-append g (those f es) (those f ds)
+  weight_append g es ds = grind (arith, those_append, sum_by-append)
 
   -- how many are found before event i
   abbrev pub before : List Event → ℕ → ℕ
   before es i = length (those f (take i es))
 
-  nth_skip : (o : Option A) (a : A) (xs ys : List A) → nth xs (length ys) ≡ Some a → nth (or_skip o xs) (length (or_skip o ys)) ≡ Some a
-  nth_skip o a xs ys h = grind arith
-
   found_at : (es : List Event) (i : ℕ) (e : Event) (a : A) → nth es i ≡ Some e → f e ≡ Some a → nth (those f es) (before es i) ≡ Some a
   found_at [] i e a h g = absurd (none-some e h)
-  found_at (d ∷ es) zero e a h g = ap (λ (o : Option A). nth (or_skip o (those f es)) 0) (ap f (same_Some d e h) ∙ g)
-  found_at (d ∷ es) (suc i) e a h g = nth_skip (f d) a (those f es) (those f (take i es)) (found_at es i e a h g)
-
-  skip_less : (o : Option A) (xs ys : List A) → length xs < length ys → length (or_skip o xs) < length (or_skip o ys)
-  skip_less o xs ys h = grind arith
+  found_at (d ∷ es) zero e a h g = grind arith
+  found_at (d ∷ es) (suc i) e a h g = grind (arith, found_at es i e a h g)
 
   -- what is found in a later event comes later
   pub before_later : (es : List Event) (h j : ℕ) (e : Event) (a : A) → h < j → nth es h ≡ Some e → f e ≡ Some a → before es h < before es j
   before_later [] h j e a l q g = absurd (none-some e q)
   before_later (d ∷ es) h zero e a l q g = absurd (omega arith)
-  before_later (d ∷ es) zero (suc j) e a l q g = omega (arith, ap (λ (o : Option A). length (or_skip o (those f (take j es)))) (ap f (same_Some d e q) ∙ g))
-  before_later (d ∷ es) (suc h) (suc j) e a l q g = skip_less (f d) (those f (take h es)) (those f (take j es)) (before_later es h j e a (omega arith) q g)
+  before_later (d ∷ es) zero (suc j) e a l q g = grind arith
+  before_later (d ∷ es) (suc h) (suc j) e a l q g = grind (arith, before_later es h j e a)
 
   -- where the numbers of what is found count up, each is known by how many come before it
   pub counted_at : (g : A → ℕ) (first n : ℕ) (es : List Event) (i : ℕ) (e : Event) (a : A) → map g (those f es) ≡ counting first n → nth es i ≡ Some e → f e ≡ Some a
@@ -57,11 +48,11 @@ counted f first xs x h e = grind (arith, map_push, counting_more, length_push)
 module _ {M : Type 0} (k : Model M) where
   values_append : (ps qs : List Placing) (vs : List M) → values_by k (ps ++ qs) vs ≡ values_by k qs (values_by k ps vs)
   values_append [] qs vs = refl
-  values_append (p ∷ ps) qs vs = values_append ps qs (alone k p vs).values
+  values_append (p ∷ ps) qs vs = grind (arith, values_append ps)
 
   readings_append : (ps qs : List Placing) (vs : List M) → readings_by k (ps ++ qs) vs ≡ readings_by k ps vs ++ readings_by k qs (values_by k ps vs)
   readings_append [] qs vs = refl
-  readings_append (p ∷ ps) qs vs = ap (λ rs. record { answers = (alone k p vs).answers; skipped = (alone k p vs).skipped } ∷ rs) (readings_append ps qs (alone k p vs).values)
+  readings_append (p ∷ ps) qs vs = grind (arith, readings_append ps)
 
   module _ (sh : Shape) (start : List M) (es : List Event) where
     pub ideal_taken : (t : Taking) → ideal k sh start (es ++ (Taken t ∷ [])) ≡ ideal k sh start es

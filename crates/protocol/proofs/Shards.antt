@@ -32,9 +32,7 @@ module _ {M : Type 0} (k : Model M) (keys : ℕ) where
   row_fresh : (w i : ℕ) (ls : List SplitItem) (table : List M) (j : ℕ) (l : SplitItem) (p : ℕ) (x : M) → nth ls j ≡ Some l → p ≡ shard_at keys w (i + j) → nth table p ≡ Some x
       → nth (fresh_row k keys w i ls table) p ≡ Some (fresh_for l x)
   row_fresh w i [] table j l p x h e q = absurd (none-some l h)
-  row_fresh w i (m ∷ ls) table zero l p x h e q =
-      let d : shard_at keys w i ≡ p = omega arith in
-      row_keeps (λ us. nth us p ≡ Some (fresh_for l x)) w (suc i) ls _ (λ j o us a b g. nth_modify_other us _ p _ (λ c. omega arith) ∙ g) (grind (arith, nth_modify table p (fresh_for m)))
+  row_fresh w i (m ∷ ls) table zero l p x h e q = row_keeps (λ us. nth us p ≡ Some (fresh_for l x)) w (suc i) ls _ (λ j o us a b g. nth_modify_other us _ p _ (λ c. omega arith) ∙ g) (grind (arith, nth_modify table p (fresh_for m)))
   row_fresh w i (m ∷ ls) table (suc j) l p x h e q = row_fresh w (suc i) ls _ j l p x h (omega arith) (nth_modify_other table _ p _ (λ d. omega arith) ∙ q)
 
   pub fresh_shard : (n : ℕ) (ls : List SplitItem) (table : List M) (w j : ℕ) (l : SplitItem) (x : M) → length ls ≤ 16 → w < n → nth ls j ≡ Some l → nth table (shard_at keys w j) ≡ Some x
@@ -62,8 +60,7 @@ module _ {M : Type 0} (k : Model M) (sh : Shape) (ls : List SplitItem) (w key j 
 
   fits_entries : (es : List Entry) → AllByRecursion (λ e. strays ls e ≡ false) es → AllByRecursion (λ e. (e.key < sh.keys) × (takes k w e e.action ≡ true)) es → AllByRecursion (Fits k sh l) (ops_on w key es)
   fits_entries [] s n = tt
-  fits_entries (e ∷ es) s n =
-      All-append _ _ _ (cond_both (eqb e.key key) (ops_of w e) [] (AllByRecursion (Fits k sh l)) (λ d. fits_entry e (eqb-true _ _ d) s.0 n.0.1) (λ d. tt)) (fits_entries es s.1 n.1)
+  fits_entries (e ∷ es) s n = grind (arith, tells, All-append, fits_entry e, fits_entries es)
 
   -- what entries that passed the tests do to a split key, from a number on, is what it is split for
   pub fits_ran : (t : Transaction) (i : ℕ) → late k sh.keys w t.entries ≡ None → AllByRecursion (λ e. strays ls e ≡ false) (ran t) → AllByRecursion (Fits k sh l) (ops_on w key (drop i (ran t)))
@@ -73,15 +70,7 @@ module _ {M : Type 0} (k : Model M) (sh : Shape) (ls : List SplitItem) (w key j 
   pub fits_pending : {ss : List Stamp} {table : List M} {events : List Event} (o : Option Transaction)
       → ((t : Transaction) → o ≡ Some t → HandOk k sh ls ss table events w t) → AllByRecursion (Fits k sh l) (pending k sh ls w key o)
   fits_pending None h = tt
-  fits_pending (Some t) h = go t.stage
-    where
-      go : (g : Stage) → AllByRecursion (Fits k sh l) (pending_at k sh ls w key (ran t) g)
-      go Running = tt
-      go (Locking c) = tt
-      go Checking = tt
-      go (Writing p c) = cond_both (is_split ls key || leb c key) (ops_on w key (ran t)) [] (AllByRecursion (Fits k sh l)) (λ e. fits_ran t 0 (h t refl).ready.1 (h t refl).chosen) (λ e. tt)
-      go (Sharding p i) = cond_both (is_split ls key) (ops_on w key (drop i (ran t))) [] (AllByRecursion (Fits k sh l)) (λ e. fits_ran t i (h t refl).ready.1 (h t refl).chosen) (λ e. tt)
-      go (Ended o) = tt
+  fits_pending (Some t) h = let f : (i : ℕ) → AllByRecursion (Fits k sh l) (ops_on w key (drop i (ran t))) = λ i. fits_ran t i (h t refl).ready.1 (h t refl).chosen in grind (arith, f 0, f)
 
 -- all that is owed to a split record is what it is split for
 module _ {M : Type 0} (k : Model M) (sh : Shape) (start : List M) (x : World M) (inv : Inv k sh start x) (key j : ℕ) (l : SplitItem)
