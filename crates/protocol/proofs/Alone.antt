@@ -1,6 +1,6 @@
 -- Runs alone of the first entries of a transaction, and of all of them.
-use Rattle.protocol.proofs.Base.{◌≡◌, refl, sym, ap, subst, ◌∙◌, Bool, true, false, cond, ◌||◌, List, [], ◌∷◌, ◌++◌, append_assoc, append-nil, ℕ, zero, suc, ◌+◌, ◌≤◌, arith, leb, ℤ, length, take, drop, length-take, take-append-drop, take_all, none-some, same_Some, All-weaker, leb-true, not_from_false, false≢true, Option, Some, None, option_is_some, AllByRecursion, nth}
-use Rattle.protocol.specs.Rules.{Model, Action, Entry, tells, falls_short, applied, short_at, Alone, ran as alone_ran, peek, Ran, after, serial, Transaction, verb_of, changes, looks}
+use Rattle.protocol.proofs.Base.{◌≡◌, refl, sym, ap, ◌∙◌, true, cond, ◌||◌, List, [], ◌∷◌, ◌++◌, append_assoc, ℕ, zero, suc, ◌+◌, ◌≤◌, arith, leb, ℤ, length, take, drop, length-take, take-append-drop, take_all, none-some, same_Some, All-weaker, false≢true, Option, Some, None, option_is_some, AllByRecursion, nth}
+use Rattle.protocol.specs.Rules.{Model, Action, Entry, tells, falls_short, applied, short_at, Alone, ran as alone_ran, peek, after, serial, Transaction, looks}
 use Rattle.serial.proofs.Alone.{short_idle, runs_alone}
 use Rattle.serial.proofs.Steps.{follow}
 use Rattle.protocol.proofs.Places.{modify_agrees}
@@ -80,9 +80,7 @@ module _ {M : Type 0} (k : Model M) (w : ℕ) where
       is v i = record { values = v i; answers = g.0 i; skipped = g.1 i }
 
       go : (o : Option ℕ) → t.skipped ≡ o → serial k w 0 t.entries vs ≡ record { values = applied k w (ran t) vs; answers = t.answers; skipped = t.skipped }
-      go None h =
-          let done : length t.entries ≤ t.done = leb-true (length t.entries) t.done (subst (λ (o : Option ℕ). (option_is_some o || leb (length t.entries) t.done) ≡ true) h f.run) in
-          ap (λ es. serial k w 0 es vs) (sym (take_all t.done t.entries done)) ∙ is (all.values ∙ ap (λ o. applied k w (alone_ran o (ran t)) vs) (g.1 ∙ h))
+      go None h = grind (arith, take_all, all)
       go (Some j) h =
           let s = g.1 ∙ h in
           let v = all.values ∙ ap (λ o. applied k w (alone_ran o (ran t)) vs) s ∙ short_last j (ran t) vs (all.stopped j s) (omega (arith, length-take t.done t.entries, f.last j h)) in

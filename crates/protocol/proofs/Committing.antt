@@ -1,10 +1,10 @@
 -- The check that finds no conflict: the transaction gets the next place, and what it read is what it reads alone at that place.
 use Rattle.protocol.proofs.Base.{◌≡◌, refl, sym, ap, subst, ◌∙◌, true, false, List, [], ◌∷◌, ◌++◌, append-nil, ◌⊎◌, inl, inr, ℕ, suc, ◌<◌, arith, length, same_Some, nth_seam, All-weaker, cases_eq, cases_Bool, tells, Option, Some, None, mapped, nth, mapped_id}
-use Rattle.protocol.specs.Rules.{Model, Laws, Operation, applied, Ran, serial, Checking, SplitItem, Stage, Transaction, Row, Shape, State, row_at, stamp_at, at_stage, with_current, ops_on, apply_all, split_in, is_split, after_check, first_conflict, Placing, Event, Placed, placing, World, writes, holds_at, holds}
+use Rattle.protocol.specs.Rules.{Model, Laws, Operation, applied, Ran, serial, Checking, SplitItem, Transaction, Row, Shape, State, row_at, stamp_at, at_stage, with_current, ops_on, apply_all, split_in, is_split, after_check, first_conflict, Placing, Event, Placed, placing, World, writes, holds_at, holds}
 use Rattle.protocol.proofs.Alone.{Finished, Agree, gives_agrees, whole}
 use Rattle.protocol.proofs.Commuting.{last_done}
 use Rattle.protocol.proofs.Frames.{ready_longer, after, moves_row, merged_step, Goes}
-use Rattle.protocol.proofs.Invariant.{Faithful, StageOk, HandOk, pending_at, pending, owed, gathered, ideal, Inv}
+use Rattle.protocol.proofs.Invariant.{Faithful, StageOk, HandOk, owed, gathered, ideal, Inv}
 use Rattle.protocol.proofs.Notes.{free_or_own, no_conflict, noted_has}
 use Rattle.protocol.proofs.Operations.{no_writes, applied_at}
 use Rattle.protocol.proofs.Owing.{gathered_same, gathered_none, unlocked_owes, owes_then, values_by}

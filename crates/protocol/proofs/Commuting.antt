@@ -1,10 +1,10 @@
 -- What the three laws give: operations of one part and verb that split commute, and a shard that began fresh is its operations.
-use Rattle.protocol.proofs.Base.{◌≡◌, refl, sym, ap, subst, ◌∙◌, true, false, List, [], ◌∷◌, ◌++◌, ◌⊎◌, inl, inr, ℕ, ◌<◌, arith, T, same_Some, Some, AllByRecursion}
+use Rattle.protocol.proofs.Base.{◌≡◌, refl, sym, subst, ◌∙◌, true, false, List, [], ◌∷◌, ◌++◌, ◌⊎◌, inl, inr, ℕ, ◌<◌, arith, same_Some, Some, AllByRecursion}
 use Rattle.protocol.specs.Rules.{Model, Rule, Laws, Operation, SplitItem, Shape, State, stamp_at, apply_all, split_in, find_split, is_split, World}
 use Rattle.protocol.proofs.Invariant.{owed, gathered, Fits, Inv}
 use Rattle.protocol.proofs.Operations.{apply_append}
 use Rattle.protocol.proofs.Owing.{Around, gathered_one, gathered_at, unlocked_owes}
-use Rattle.protocol.proofs.Shards.{split_item, fits_owed}
+use Rattle.protocol.proofs.Shards.{fits_owed}
 use Rattle.protocol.proofs.Splits.{split_found, found_at, good_item}
 
 -- what holds of all of a joined list holds of its two parts

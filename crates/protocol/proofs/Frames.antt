@@ -1,8 +1,8 @@
 -- What a turn of one worker leaves of the others, and what it has to show for itself.
 use Rattle.protocol.proofs.Base.{◌≡◌, ap, ◌∙◌, true, false, List, ◌++◌, ℕ, ◌≤◌, ◌<◌, arith, length, set, All-weaker, Option, Some, AllByRecursion, nth}
-use Rattle.protocol.specs.Rules.{Model, Phase, SplitItem, Stage, Stamp, Transaction, Row, Shape, State, idle, row_at, stamp_at, split_in, is_split, Moved, put_back, Event, World, holds_at, holds}
+use Rattle.protocol.specs.Rules.{Model, Phase, SplitItem, Stamp, Transaction, Row, Shape, State, idle, row_at, stamp_at, split_in, is_split, Moved, put_back, Event, World, holds_at, holds}
 use Rattle.protocol.proofs.Alone.{gives_agrees}
-use Rattle.protocol.proofs.Invariant.{Past, Ready, Faithful, StageOk, HandOk, MergedOk, RowOk, ValuesOk, ideal, Kept, Inv}
+use Rattle.protocol.proofs.Invariant.{Past, Ready, Faithful, HandOk, MergedOk, RowOk, ValuesOk, ideal, Kept, Inv}
 use Rattle.protocol.proofs.Notes.{noted_has}
 use Rattle.protocol.proofs.Places.{nth_longer, all_both, set_cases}
 use Rattle.protocol.specs.State.{ran}

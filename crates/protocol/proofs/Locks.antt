@@ -1,6 +1,6 @@
 -- Who owns which record: what each stage holds, and what a step locks and frees.
-use Rattle.protocol.proofs.Base.{◌≡◌, refl, sym, ◌∙◌, Bool, true, ◌&&◌, List, ℕ, suc, ◌<◌, arith, leb, ltb, length, get_or, get_or-map, length-map, tells, Option, Some, None}
-use Rattle.protocol.specs.Rules.{Model, Entry, modify, SplitItem, Stage, Running, Stamp, Transaction, Row, stamp_at, at_stage, after_running, after_writing, after_check, owned_by, lock_for, free_own, stamped, one_more, settled, Moved, put_aside, put_back, Event, writes, holds_at, holds, aims_at, aims}
+use Rattle.protocol.proofs.Base.{◌≡◌, refl, Bool, true, ◌&&◌, List, ℕ, suc, ◌<◌, arith, leb, ltb, length, get_or, get_or-map, length-map, tells, Option, Some, None}
+use Rattle.protocol.specs.Rules.{Model, Entry, modify, SplitItem, Stage, Running, Stamp, Transaction, Row, stamp_at, at_stage, after_running, after_check, owned_by, lock_for, free_own, stamped, one_more, settled, Moved, put_aside, put_back, Event, writes, holds_at, holds, aims_at, aims}
 use Rattle.protocol.proofs.Doing.{Does, rests, reads, strays_off, clashes, locks, places, writes_on, shards}
 use Rattle.protocol.proofs.Places.{length_modify, get_or_modify, get_or_modify_other}
 use Rattle.protocol.proofs.Targets.{next_key}
@@ -83,4 +83,4 @@ module _ {M : Type 0} (k : Model M) (keys : ℕ) (ls : List SplitItem) (w : ℕ)
       let a = after_check_holds ls (ran t) p (suc key) in
       one_owner ls w ss key (stamped p) (Some (at_stage t (after_check ls (ran t) p (suc key)))) a.0
       (λ l. (grind (arith, tells, a.1 key), λ j d. grind (arith, tells, held key l))) (λ other l n. grind (arith, tells, a.1 other, held other l))
-  step_owns r (shards p i e g there) = stays (Some (at_stage t (after_writing ls (ran t) p (suc i)))) (λ key. grind arith) (grind arith)
+  step_owns r (shards p i e g there) = grind arith

@@ -1,6 +1,6 @@
 -- A worker merges its next shard.
-use Rattle.protocol.proofs.Base.{◌≡◌, refl, sym, ap, subst, ◌∙◌, true, false, List, [], ◌++◌, ◌⊎◌, inl, inr, ℕ, suc, ◌<◌, arith, length, All-weaker, get_or_past, nth_getD, nth_past, cases_eq, Option, Some, None, option_is_some, mapped, nth, none-some}
-use Rattle.protocol.specs.Rules.{Model, Laws, Operation, modify, Merging, SplitItem, Stamp, Transaction, Shape, State, Row, row_at, stamp_at, split_in, find_split, is_split, apply_all, shard_at, merging, revised, revise, merge_shard, merge_item, World, holds}
+use Rattle.protocol.proofs.Base.{◌≡◌, refl, sym, ap, subst, ◌∙◌, true, false, List, [], ◌++◌, ◌⊎◌, inl, inr, ℕ, suc, ◌<◌, arith, length, All-weaker, get_or_past, nth_getD, cases_eq, Option, Some, None, mapped, nth, none-some}
+use Rattle.protocol.specs.Rules.{Model, Laws, Operation, modify, Merging, SplitItem, Stamp, Transaction, Shape, State, Row, row_at, stamp_at, split_in, is_split, apply_all, shard_at, merging, revised, revise, merge_shard, merge_item, World, holds}
 use Rattle.protocol.proofs.Commuting.{first_done, merge_all}
 use Rattle.protocol.proofs.Frames.{ready_longer, after, moves}
 use Rattle.protocol.proofs.Invariant.{MergedOk, pending, owed, gathered, ShardOk, Kept, Inv}

@@ -1,5 +1,5 @@
 -- Noted versions, and the check that finds none of them stale.
-use Rattle.protocol.proofs.Base.{◌≡◌, refl, subst, ◌∙◌, true, false, not, ◌&&◌, ◌||◌, List, [], ◌∷◌, ◌++◌, ◌⊎◌, inl, inr, ℕ, arith, eqb, All-push, cond_both, or_cases, or_left, or_right, eqb-true, eq-eqb, false≢true, tells, Option, Some, None, option_is_some, AllByRecursion}
+use Rattle.protocol.proofs.Base.{◌≡◌, true, false, not, ◌&&◌, ◌||◌, List, [], ◌∷◌, ◌++◌, ◌⊎◌, inl, inr, ℕ, arith, eqb, All-push, or_cases, false≢true, tells, Option, Some, None, option_is_some, AllByRecursion}
 use Rattle.protocol.specs.Rules.{Note, Stamp, stamp_at, owned_by, locked_out, is_noted, note, first_conflict}
 
 -- a record that no other worker has locked is free, or the worker's own

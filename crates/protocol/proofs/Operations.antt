@@ -1,8 +1,8 @@
 -- The operations of entries on one key, and what they make of its value.
-use Rattle.protocol.proofs.Base.{◌≡◌, refl, sym, ap, ◌∙◌, true, false, cond, List, [], ◌∷◌, ◌++◌, append_assoc, ℕ, arith, eqb, length, take, drop, take-append-drop, nth_drop, drop-drop, tells, Option, Some, None, mapped, AllByRecursion, nth, mapped_id}
-use Rattle.protocol.specs.Rules.{Model, Operation, Action, Entry, applied, after, SplitItem, changes, action_ops, ops_of, ops_on, apply_all, is_split, sharded, next_shard, writes}
+use Rattle.protocol.proofs.Base.{◌≡◌, refl, sym, true, false, cond, List, [], ◌∷◌, ◌++◌, append_assoc, ℕ, arith, eqb, length, take, drop, take-append-drop, nth_drop, drop-drop, Option, Some, None, mapped, AllByRecursion, nth, mapped_id}
+use Rattle.protocol.specs.Rules.{Model, Operation, Action, Entry, applied, after, SplitItem, action_ops, ops_on, apply_all, is_split, sharded, next_shard, writes}
 use Rattle.protocol.proofs.Finding.{found, not_found}
-use Rattle.protocol.proofs.Places.{nth_modify, nth_modify_other, length_modify, mapped_mapped, mapped_same}
+use Rattle.protocol.proofs.Places.{nth_modify, nth_modify_other, length_modify}
 
 module _ (w key : ℕ) where
   pub ops_on_append : (es fs : List Entry) → ops_on w key (es ++ fs) ≡ ops_on w key es ++ ops_on w key fs

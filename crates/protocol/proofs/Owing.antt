@@ -1,10 +1,9 @@
 -- What is owed to a record: by whom, and what stays owed where a turn changes one row.
-use Rattle.protocol.proofs.Base.{◌≡◌, refl, sym, ap, subst, ◌∙◌, false, List, [], ◌++◌, append-nil, append_assoc, ◌⊎◌, inl, inr, ℕ, zero, suc, ◌≤◌, ◌<◌, arith, cases_eq, length, Option, Some, AllByRecursion, mapped, nth, rules}
-use Rattle.protocol.specs.Rules.{Model, Operation, SplitItem, Stamp, Transaction, Row, Shape, State, row_at, stamp_at, apply_all, split_in, is_split, shard_at, Event, World, holds}
+use Rattle.protocol.proofs.Base.{◌≡◌, refl, sym, ap, ◌∙◌, false, List, [], ◌++◌, append-nil, append_assoc, ◌⊎◌, inl, inr, ℕ, zero, suc, ◌≤◌, ◌<◌, arith, cases_eq, length, Option, Some, AllByRecursion, mapped, nth, rules}
+use Rattle.protocol.specs.Rules.{Model, Operation, SplitItem, Stamp, Transaction, Row, Shape, State, row_at, stamp_at, apply_all, split_in, is_split, Event, World, holds}
 use Rattle.protocol.proofs.Frames.{after, each_row, moves_row}
 use Rattle.protocol.proofs.Invariant.{Past, Ready, HandOk, MergedOk, pending, owed, gathered, ValuesOk, ideal, Kept, Inv}
 use Rattle.protocol.proofs.Operations.{no_writes}
-use Rattle.protocol.proofs.Past.{ideal_none, past_none}
 
 module _ {M : Type 0} (k : Model M) (sh : Shape) where
   pub gathered_same : (f g : ℕ → List Operation) (n : ℕ) → ((j : ℕ) → j < n → f j ≡ g j) → gathered k sh f n ≡ gathered k sh g n

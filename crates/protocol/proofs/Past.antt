@@ -1,6 +1,6 @@
 -- What happened, with one event more, and the order of what happened.
-use Rattle.protocol.proofs.Base.{◌≡◌, refl, sym, ap, subst, ◌∙◌, List, [], ◌∷◌, ◌++◌, append-nil, map, inl, inr, ℕ, zero, suc, ◌+◌, ◌≤◌, ◌<◌, arith, add-one, length, take, map-id, map_push, length_push, length_counting, get_or-range_with_len, map_counting_more, nth_getD, sum_by-append, none-some, same_Some, nth_within, nth_map, Option, Some, Ok, counting, mapped, sum_by, nth}
-use Rattle.protocol.specs.Rules.{Model, ReadAs, Transaction, Shape, Taking, Placing, Event, Taken, Placed, taking_in, placing_in, or_skip, those, takings, placings, alone, values_by, readings_by, SameSlip, readings_of}
+use Rattle.protocol.proofs.Base.{◌≡◌, refl, sym, ap, subst, ◌∙◌, List, [], ◌∷◌, ◌++◌, append-nil, map, inl, inr, ℕ, zero, suc, ◌+◌, ◌≤◌, ◌<◌, arith, length, take, map-id, map_push, length_push, length_counting, get_or-range_with_len, map_counting_more, nth_getD, sum_by-append, none-some, same_Some, nth_within, nth_map, Option, Some, Ok, counting, mapped, sum_by, nth}
+use Rattle.protocol.specs.Rules.{Model, ReadAs, Transaction, Shape, Taking, Placing, Event, Taken, Placed, taking_in, placing_in, those, takings, placings, alone, values_by, readings_by, SameSlip, readings_of}
 use Rattle.protocol.proofs.Invariant.{Live, HasPlace, Past, ideal}
 use Rattle.protocol.proofs.Places.{nth_push, nth_longer}
 

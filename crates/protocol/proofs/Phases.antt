@@ -1,12 +1,12 @@
 -- Turns that change the phase, and the opening.
-use Rattle.protocol.proofs.Base.{◌≡◌, refl, sym, ap, subst, ◌∙◌, Bool, true, false, not, List, [], ◌∷◌, ◌++◌, map, ◌⊎◌, inl, inr, ℕ, zero, suc, ◌+◌, ◌*◌, ◌≤◌, ◌<◌, arith, eqb, length, get_or, replicate, length-replicate, none-some, nth_within, All-weaker, cases_Bool, eqb-true, leb-true, false≢true, tells, Some, None, mapped, nth, common_steps, get_or-replicate, get_or_past, mapped_id}
+use Rattle.protocol.proofs.Base.{◌≡◌, refl, sym, ap, ◌∙◌, Bool, true, false, not, List, [], ◌∷◌, ◌++◌, map, ◌⊎◌, inl, inr, ℕ, ◌+◌, ◌*◌, ◌≤◌, ◌<◌, arith, eqb, length, get_or, replicate, length-replicate, none-some, nth_within, All-weaker, eqb-true, leb-true, false≢true, tells, Some, None, mapped, nth, common_steps, get_or-replicate, get_or_past, mapped_id}
 use Rattle.protocol.specs.Rules.{Model, Operation, Phase, Joined, Closing, Split, Merging, SplitItem, Stamp, when, first_of, good_figures, Transaction, Shape, State, Row, idle, row_at, apply_all, split_in, is_split, shard_at, all_acknowledged, acknowledging, merging, next_phase, good_from, good_split, fresh_all, opened, refuse_open, World, may_rest}
 use Rattle.protocol.proofs.Frames.{ready_longer, hand_grows}
 use Rattle.protocol.proofs.Invariant.{MergedOk, RowOk, pending, owed, ShardOk, Kept, Inv}
 use Rattle.protocol.proofs.Owing.{gathered_same, gathered_none}
 use Rattle.protocol.proofs.Past.{past_none, ideal_none}
 use Rattle.protocol.proofs.Places.{nth_take, nth_there, nth_modify_other, length_modify}
-use Rattle.protocol.proofs.Shards.{fresh_keeps, fresh_shard, split_item}
+use Rattle.protocol.proofs.Shards.{fresh_keeps, fresh_shard}
 use Rattle.protocol.proofs.Soundness.{row_map, each_done, all_empty}
 use Rattle.protocol.proofs.Splits.{split_found, found_at}
 

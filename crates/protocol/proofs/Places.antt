@@ -1,5 +1,5 @@
 -- Lists by place: one element changed, the front, and elements of joined lists.
-use Rattle.protocol.proofs.Base.{All-get_or, common_steps, gets, slice_get_cases, nth_getD, nth_past, get_or_past, length-take, get_or_from_slice_get, take-suc, drop-cons, ◌≡◌, refl, sym, ap, ◌∙◌, List, [], ◌∷◌, ◌++◌, ◌⊎◌, inl, inr, ℕ, zero, suc, ◌<◌, arith, length, get_or, set, take, drop, none-some, same_Some, nth_within, nth_left, get_or-set_same, get_or-set_other, Option, Some, None, mapped, AllByRecursion, nth}
+use Rattle.protocol.proofs.Base.{All-get_or, common_steps, gets, slice_get_cases, nth_getD, get_or_past, length-take, take-suc, drop-cons, ◌≡◌, refl, ap, List, [], ◌∷◌, ◌++◌, ◌⊎◌, ℕ, zero, suc, ◌<◌, arith, length, get_or, set, take, drop, nth_within, get_or-set_same, get_or-set_other, Option, Some, mapped, AllByRecursion, nth}
 use Rattle.protocol.specs.Rules.{modify}
 
 module _ {A : Type 0} where

@@ -1,6 +1,6 @@
 -- The promise, from what holds of every world that turns lead to.
-use Rattle.protocol.proofs.Base.{◌≡◌, refl, sym, ap, ◌∙◌, Bool, true, cond, not, List, [], ◌∷◌, map, inl, inr, ℕ, zero, suc, ◌+◌, ◌≤◌, ◌<◌, arith, eqb, ℤ, length, take, length-take, none-some, sum_by-cons, get_or-le-sum_by, cases_order, and_parts, eq-eqb, not-true, tells, Option, Some, None, Result, Ok, counting, option_is_some, mapped, sum_by, nth, rules, mapped_id, folded_map, same_lists, gets}
-use Rattle.protocol.specs.Rules.{Model, Laws, Entry, ran as alone_ran, Outcome, Committed, Conflict, TurnedAway, Phase, Joined, Stage, Ended, Stamp, outcome_code, Transaction, Shape, State, idle, row_at, stamp_at, end_of, place_in, place_of, apply_all, split_in, is_split, Call, Take, Collect, Gave, Taking, Placing, Event, Taken, Placed, quiet, refuse_open, turn, taking_in, placing_in, placings, takings, World, alone, values_by, times_placed, RightlyTold, Kept, Promise, in_row, in_hand}
+use Rattle.protocol.proofs.Base.{◌≡◌, refl, sym, ap, ◌∙◌, Bool, true, cond, not, List, [], ◌∷◌, inl, inr, ℕ, zero, suc, ◌+◌, ◌≤◌, ◌<◌, arith, eqb, ℤ, length, take, length-take, none-some, sum_by-cons, get_or-le-sum_by, cases_order, and_parts, eq-eqb, not-true, tells, Option, Some, None, counting, option_is_some, sum_by, nth, rules, folded_map, same_lists, gets}
+use Rattle.protocol.specs.Rules.{Model, Laws, ran as alone_ran, Outcome, Committed, Conflict, TurnedAway, Phase, Joined, Ended, Stamp, outcome_code, Transaction, Shape, State, idle, row_at, stamp_at, place_in, place_of, split_in, is_split, Collect, Gave, Taking, Placing, Event, Taken, Placed, quiet, refuse_open, turn, taking_in, placing_in, placings, takings, World, alone, values_by, times_placed, RightlyTold, Kept, Promise, in_row, in_hand}
 use Rattle.serial.proofs.Alone.{runs_alone}
 use Rattle.protocol.proofs.Allowed.{none_is}
 use Rattle.protocol.proofs.Invariant.{taken_weight, Past, owed, ideal, Inv}

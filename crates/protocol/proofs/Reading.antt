@@ -1,11 +1,11 @@
 -- One entry more: what a transaction has read holds good, and what it does next.
-use Rattle.protocol.proofs.Base.{◌≡◌, refl, sym, ap, subst, subst₂, ◌∙◌, true, false, cond, List, [], ◌∷◌, ◌++◌, ℕ, arith, length, none-some, nth_within, All-push, All-take, All-weaker, length-take-le, take_at, cond_both, cond-true, or_parts, Option, Some, None, option_is_some, AllByRecursion, nth}
+use Rattle.protocol.proofs.Base.{◌≡◌, refl, sym, ap, subst, subst₂, ◌∙◌, true, false, cond, List, [], ◌∷◌, ◌++◌, ℕ, arith, length, nth_within, All-push, All-take, All-weaker, length-take-le, take_at, cond_both, cond-true, or_parts, Option, Some, None, option_is_some, AllByRecursion, nth}
 use Rattle.protocol.specs.Rules.{Model, Entry, applied, falls_short, Note, Running, SplitItem, Stage, Stamp, Transaction, Shape, stamp_at, place_of, at_stage, looks, find_split, strays_from, strays, after_running, is_noted, note, one_more, has_run, noting, reading, Event}
 use Rattle.serial.specs.Alone.{tells as told}
 use Rattle.protocol.proofs.Alone.{Finished, Gives, gives_more}
 use Rattle.protocol.proofs.Allowed.{none_is}
 use Rattle.protocol.proofs.Finding.{admitted}
-use Rattle.protocol.proofs.Invariant.{Ready, Faithful, StageOk, HandOk, pending_at}
+use Rattle.protocol.proofs.Invariant.{Ready, Faithful, StageOk, HandOk}
 use Rattle.protocol.proofs.Notes.{note_keeps, note_notes, note_all}
 use Rattle.protocol.proofs.Places.{take_one_more, all_nth}
 use Rattle.protocol.specs.State.{ran}

@@ -1,12 +1,12 @@
 -- Steps before the check: an entry runs or is stashed, a record is locked, or the transaction meets a conflict.
-use Rattle.protocol.proofs.Base.{nth_getD, nth_past, get_or_past, ◌≡◌, refl, sym, ap, subst, ◌∙◌, true, false, List, [], ◌∷◌, ◌++◌, append-nil, map, ℕ, zero, suc, ◌<◌, arith, ltb, length, same_Some, none-some, All-push, length-map, cond_both, Option, Some, None, AllByRecursion, nth, rules, get_or-map, common_steps}
-use Rattle.protocol.specs.Rules.{Model, Entry, applied, modify, Outcome, Conflict, TurnedAway, SplitItem, Running, Locking, Ended, Stamp, Told, Transaction, Row, Shape, State, row_at, stamp_at, place_in, place_of, at_stage, strays, split_in, after_running, lock_for, free_own, clash, reading, Moved, World}
+use Rattle.protocol.proofs.Base.{nth_getD, get_or_past, ◌≡◌, refl, sym, ap, subst, true, false, List, [], ◌∷◌, ◌++◌, append-nil, map, ℕ, suc, ◌<◌, arith, ltb, length, none-some, All-push, length-map, cond_both, Option, Some, None, AllByRecursion, nth, rules, get_or-map, common_steps}
+use Rattle.protocol.specs.Rules.{Model, Entry, applied, modify, Outcome, TurnedAway, SplitItem, Running, Locking, Ended, Stamp, Told, Transaction, Row, Shape, State, row_at, stamp_at, place_in, place_of, at_stage, strays, split_in, after_running, lock_for, free_own, clash, reading, Moved, World}
 use Rattle.protocol.proofs.Doing.{moved}
 use Rattle.protocol.proofs.Frames.{faithful_grows, after, merged_step, Goes}
 use Rattle.protocol.proofs.Invariant.{Ready, StageOk, HandOk, pending, Kept, Inv}
 use Rattle.protocol.proofs.Owing.{stays_owing}
 use Rattle.protocol.proofs.Places.{nth_modify, nth_modify_other, length_modify}
-use Rattle.protocol.proofs.Reading.{Early, early, locks_on, reads_on}
+use Rattle.protocol.proofs.Reading.{Early, locks_on, reads_on}
 use Rattle.protocol.specs.State.{ran}
 
 -- locking and freeing leave the versions

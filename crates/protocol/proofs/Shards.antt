@@ -1,10 +1,10 @@
 -- Where shards lie in the table, what making them fresh leaves, and that all that is owed to a split record is what it is split for.
-use Rattle.protocol.proofs.Base.{◌≡◌, refl, sym, ap, ◌∙◌, true, false, ◌&&◌, ◌||◌, List, [], ◌∷◌, ◌++◌, ◌⊎◌, inl, inr, ℕ, zero, suc, ◌+◌, ◌≤◌, ◌<◌, arith, eqb, leb, length, drop, none-some, nth_within, All-append, All-take, All-drop, cases_eq, cond_both, eqb-true, tells, Option, Some, None, AllByRecursion, nth, cond, mapped, rules}
-use Rattle.protocol.specs.Rules.{Model, Entry, modify, Phase, Split, Merging, SplitItem, Stage, Running, Locking, Checking, Writing, Sharding, Ended, Stamp, takes, late, Transaction, Shape, row_at, ops_of, ops_on, split_in, find_split, is_split, strays, shard_at, Event, fresh_row, fresh_all, World, State, Row, Operation, apply_all}
+use Rattle.protocol.proofs.Base.{◌≡◌, refl, sym, ap, ◌∙◌, true, false, ◌&&◌, List, [], ◌∷◌, ◌++◌, ◌⊎◌, inl, inr, ℕ, zero, suc, ◌+◌, ◌≤◌, ◌<◌, arith, eqb, length, drop, none-some, nth_within, All-append, All-take, All-drop, cases_eq, tells, Option, Some, None, AllByRecursion, nth, cond, mapped, rules}
+use Rattle.protocol.specs.Rules.{Model, Entry, modify, Phase, Split, Merging, SplitItem, Stamp, takes, late, Transaction, Shape, row_at, ops_of, ops_on, split_in, find_split, is_split, strays, shard_at, Event, fresh_row, fresh_all, World, State, Row, Operation, apply_all}
 use Rattle.protocol.proofs.Finding.{admitted}
 use Rattle.protocol.proofs.Frames.{after, each_row}
-use Rattle.protocol.proofs.Invariant.{HandOk, Fits, pending_at, pending, owed, gathered, Inv, ShardOk, ValuesOk, ideal}
-use Rattle.protocol.proofs.Owing.{gathered_same, owes_then}
+use Rattle.protocol.proofs.Invariant.{HandOk, Fits, pending, owed, gathered, Inv, ShardOk, ValuesOk, ideal}
+use Rattle.protocol.proofs.Owing.{gathered_same}
 use Rattle.protocol.proofs.Past.{ideal_none}
 use Rattle.protocol.proofs.Places.{nth_modify, nth_modify_other}
 use Rattle.protocol.proofs.Splits.{found_at, good_found, good_item}

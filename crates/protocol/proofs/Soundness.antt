@@ -1,6 +1,6 @@
 -- Every turn keeps what holds of the engine between calls: its locks, its counts, and that whoever has acknowledged rests.
-use Rattle.protocol.proofs.Base.{◌≡◌, refl, sym, ap, ◌∙◌, Bool, true, false, List, [], ◌∷◌, map, ◌⊎◌, inl, inr, ℕ, zero, suc, ◌+◌, ◌≤◌, ◌<◌, ◌^◌, arith, length, set, replicate, get_or_past, length-set, length-map, get_or-replicate, sum_by-cons, tells, Option, Some, None, Ok, Err, nth, rules, sum_by-replicate, get_or-map, common_steps}
-use Rattle.protocol.specs.Rules.{Model, Phase, Closing, Merging, SplitItem, Stamp, Transaction, Row, Shape, State, idle, row_at, stamp_at, begin, with_current, split_in, first_of, owned_by, Moved, put_back, move, step_row, Call, Take, Draw, Step, Acknowledge, Merge, Collect, AnnounceSplit, AnnounceMerging, Release, next_phase, all_acknowledged, drawn, acknowledging, merging, revised, revise, opened, tests, makes, turn_by, turn, holds, aims, in_row, in_rows, may_rest, Counted, Sound, StaysSound}
+use Rattle.protocol.proofs.Base.{◌≡◌, refl, sym, ap, ◌∙◌, Bool, true, false, List, [], ◌∷◌, map, ◌⊎◌, inl, inr, ℕ, zero, suc, ◌+◌, ◌≤◌, ◌<◌, ◌^◌, arith, length, set, replicate, get_or_past, length-set, length-map, get_or-replicate, tells, Option, Some, None, Ok, Err, rules, sum_by-replicate, get_or-map, common_steps}
+use Rattle.protocol.specs.Rules.{Model, Phase, Closing, Merging, SplitItem, Stamp, Transaction, Row, Shape, State, idle, row_at, stamp_at, with_current, split_in, first_of, owned_by, Moved, put_back, move, step_row, Call, Take, Draw, Step, Acknowledge, Merge, Collect, AnnounceSplit, AnnounceMerging, Release, next_phase, all_acknowledged, drawn, acknowledging, merging, revised, revise, opened, tests, makes, turn_by, turn, holds, aims, in_rows, may_rest, Counted, Sound, StaysSound}
 use Rattle.std.proofs.lemmas.List.{length-replicate}
 use Rattle.protocol.proofs.Allowed.{Allowed, allowed}
 use Rattle.protocol.proofs.Doing.{does}
@@ -105,15 +105,12 @@ module _ (sh : Shape) (s : State) (sound : Sound sh s) where
 
     made_sound : (c : Call) → Allowed k sh s table c → Sound sh (makes k sh s table c).state
     made_sound (Take w text (Err c)) a = sound
-    made_sound (Take w text (Ok es)) a = hand_sound w (suc s.ticket) (with_current (row w) (Some (begin (suc s.ticket) es))) a.0
-        (λ key. grind (arith, a.2)) refl (λ h. grind (arith, sound.resting w h, a.1)) (let h = a.3 in omega (arith, sound.low)) (made_counted (Take w text (Ok es)) a)
+    made_sound (Take w text (Ok es)) a = grind (arith, common_steps)
     made_sound (Draw w) a = hand_sound w s.ticket (drawn (row w) (row w).stash) a.0 (λ key. grind (arith, a.2)) (grind (arith, a.2))
         (λ h. grind (arith, tells, sound.resting w, a.1, a.2)) sound.low (made_counted (Draw w) a)
     made_sound (Step w) a = step_sound w a.0 (row w).current refl (made_counted (Step w) a)
-    made_sound (Acknowledge w) a = hand_sound w s.ticket (acknowledging true (row w)) a.0 (λ key. refl) (sound.aims w)
-        (λ h. grind (arith, tells, a.1, a.2, a.3)) sound.low (made_counted (Acknowledge w) a)
-    made_sound (Merge w) a = row_sound w s.ticket s.place _ (merging (suc (row w).merged) (row w)) a.0
-        (revise_owns w (nth s.split (row w).merged)) (λ h. grind (arith, a.1, a.2)) sound.low (made_counted (Merge w) a)
+    made_sound (Acknowledge w) a = grind (arith, common_steps)
+    made_sound (Merge w) a = grind (arith, common_steps, revise_owns)
     made_sound (Collect w ticket buffer) a = hand_sound w s.ticket (with_current (row w) None) a.0 (λ key. grind (arith, a.1)) refl
         (λ h. grind (arith, sound.resting w h, a.1)) sound.low (made_counted (Collect w ticket buffer) a)
     made_sound (AnnounceSplit items) a = phase_sound Closing items (map (merging 0) s.rows) (length-map s.rows (merging 0))

@@ -1,5 +1,5 @@
 -- The list of split records: what is found in it, and what its test says.
-use Rattle.protocol.proofs.Base.{tells, cases_eq, inl, inr, ◌≡◌, refl, ap, ◌∙◌, true, List, [], ◌∷◌, ℕ, zero, suc, ◌+◌, ◌≤◌, ◌<◌, arith, none-some, same_Some, false≢true, Option, Some, None, option_is_some, nth}
+use Rattle.protocol.proofs.Base.{tells, cases_eq, inl, inr, ◌≡◌, refl, true, List, [], ◌∷◌, ℕ, zero, suc, ◌+◌, ◌≤◌, ◌<◌, arith, none-some, false≢true, Some, None, option_is_some, nth}
 use Rattle.protocol.specs.Rules.{Model, SplitItem, find_split, is_split, good_from}
 
 -- a key that is split is found

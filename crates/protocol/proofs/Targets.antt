@@ -1,6 +1,6 @@
 -- Which key is locked or written next, and which operation goes to a shard next.
-use Rattle.protocol.proofs.Base.{◌≡◌, subst, Bool, true, false, not, ◌&&◌, List, [], ◌∷◌, inl, inr, ℕ, ◌≤◌, arith, eqb, or_cases, cond_both, false≢true, tells, Option, Some, None, AllByRecursion}
-use Rattle.protocol.specs.Rules.{Entry, SplitItem, changes, is_split, wanted, next_target, lesser, writes}
+use Rattle.protocol.proofs.Base.{◌≡◌, true, false, List, [], ◌∷◌, ℕ, ◌≤◌, arith, false≢true, Option, Some, None, AllByRecursion}
+use Rattle.protocol.specs.Rules.{Entry, SplitItem, is_split, next_target, writes}
 
 module _ (ls : List SplitItem) where
   -- a key that is written is not split, and is the key of an entry

@@ -1,12 +1,12 @@
 -- Every turn of every run keeps the invariant.
-use Rattle.protocol.proofs.Base.{◌≡◌, refl, sym, subst, ◌∙◌, true, List, [], ◌++◌, append-nil, ℕ, ◌<◌, ◌^◌, arith, ℤ, false≢true, Option, Some, None, Result, common_steps, rules}
-use Rattle.protocol.specs.Rules.{Model, Laws, ReadAs, Entry, SplitItem, first_of, Transaction, Shape, State, row_at, split_in, Moved, step_row, Call, Take, Draw, Step, Acknowledge, Merge, Collect, AnnounceSplit, AnnounceMerging, Release, Event, Made, Refused, left_in, runs, refuse_open, tests, merges, makes, turn_by, turn, World, Lawful, Runs, opens, refuses, Unchanged}
+use Rattle.protocol.proofs.Base.{◌≡◌, refl, sym, subst, ◌∙◌, true, List, [], ◌++◌, append-nil, ℕ, ◌<◌, ◌^◌, arith, false≢true, Option, Some, None, Result, common_steps, rules, tells}
+use Rattle.protocol.specs.Rules.{Model, Laws, ReadAs, Entry, SplitItem, first_of, Transaction, Shape, State, row_at, split_in, Moved, step_row, Call, Take, Draw, Step, Acknowledge, Merge, Collect, AnnounceSplit, AnnounceMerging, Release, Event, Made, Refused, runs, refuse_open, tests, merges, makes, turn_by, turn, World, Lawful, Runs, opens, refuses, Unchanged}
 use Rattle.protocol.proofs.Allowed.{allowed}
 use Rattle.protocol.proofs.Committing.{places_ok}
 use Rattle.protocol.proofs.Doing.{Does, rests, reads, strays_off, clashes, locks, places, writes_on, shards, does}
 use Rattle.protocol.proofs.Frames.{after, Goes}
 use Rattle.protocol.proofs.Hands.{takes_ok, draws_ok, collects_ok, acknowledges_ok}
-use Rattle.protocol.proofs.Invariant.{Weighed, Kept, Inv}
+use Rattle.protocol.proofs.Invariant.{Kept, Inv}
 use Rattle.protocol.proofs.Merging.{merges_ok}
 use Rattle.protocol.proofs.Past.{weight_append}
 use Rattle.protocol.proofs.Phases.{opens_ok, splits_ok, merging_ok, releases_ok}
@@ -66,7 +66,7 @@ module _ {M : Type 0} (k : Model M) (laws : Laws k) (sh : Shape) (start : List M
         let a = allowed k sh s x.table (Merge w) h in
         let l = nth_there s.split (row_at s.rows w).merged a.3 in
         subst (λ (o : Option SplitItem). Fine (merges k sh s x.table w (row_at s.rows w).merged o)) (sym l.1) (merges_ok k laws sh start x inv w a.0 a.1 a.2 l.0 l.1)
-    makes_fine (Collect w ticket buffer) _ h = let a = allowed k sh s x.table (Collect w ticket buffer) h in collects_ok k sh start x inv w a.0 ticket a.1
+    makes_fine (Collect w ticket buffer) _ h = grind (arith, tells, collects_ok)
     makes_fine (AnnounceSplit ls) _ h = let a = allowed k sh s x.table (AnnounceSplit ls) h in splits_ok k sh start x inv ls a.0 a.1
     makes_fine AnnounceMerging _ h = merging_ok k sh start x inv (allowed k sh s x.table AnnounceMerging h)
     makes_fine (Release p) _ h = let a = allowed k sh s x.table (Release p) h in releases_ok k sh start x inv p a.0 a.1 a.2
@@ -83,7 +83,7 @@ module _ {M : Type 0} (k : Model M) (laws : Laws k) (sh : Shape) (start : List M
 
   -- what holds of every world that a run leads to
   pub run_inv : refuse_open k sh start ≡ None → sh.first < 2 ^ 64 → (x : World M) → Runs k sh start x → Inv k sh start x
-  run_inv fine low x opens = record { sound = opened_sound k sh low; weighed = λ f. omega (arith, idle_weigh f sh.workers); kept = opens_ok k sh start fine }
+  run_inv fine low x opens = search (rules, opened_sound, idle_weigh, opens_ok)
   run_inv fine low x (goes_on {x = y} c r lawful) = turn_inv y (run_inv fine low y r) c lawful
   run_inv fine low x (refuses {x = y} c lent code r lawful h) =
       let u = unchanged k sh y.state lent code c h in
