@@ -1,15 +1,10 @@
 -- Who owns which record: what each stage holds, and what a step locks and frees.
-use Rattle.protocol.proofs.Base.{◌≡◌, refl, Bool, true, ◌&&◌, List, ℕ, suc, ◌<◌, arith, leb, ltb, length, get_or, get_or-map, length-map, tells, Option, Some, None}
+use Rattle.protocol.proofs.Base.{◌≡◌, refl, Bool, true, ◌&&◌, List, ℕ, suc, ◌<◌, arith, leb, ltb, length, get_or-map, length-map, tells, Option, Some, None}
 use Rattle.protocol.specs.Rules.{Model, Entry, modify, SplitItem, Stage, Running, Stamp, Transaction, Row, stamp_at, at_stage, after_running, after_check, owned_by, lock_for, free_own, stamped, one_more, settled, Moved, put_aside, put_back, Event, writes, holds_at, holds, aims_at, aims}
 use Rattle.protocol.proofs.Doing.{Does, rests, reads, strays_off, clashes, locks, places, writes_on, shards}
 use Rattle.protocol.proofs.Places.{length_modify, get_or_modify, get_or_modify_other}
 use Rattle.protocol.proofs.Targets.{next_key}
 use Rattle.protocol.specs.State.{ran}
-
--- what holds of a place of a list where one element was changed
-modify_cases : {A : Type 0} (P : A → Type 0) (xs : List A) (i j : ℕ) (f : A → A) (d : A) → j < length xs → (j ≡ i → P (f (get_or xs j d))) → ((j ≡ i → ⊥) → P (get_or xs j d))
-    → P (get_or (modify i f xs) j d)
-modify_cases P xs i j f d l here there = grind (arith, get_or_modify, get_or_modify_other)
 
 -- ---- what the next stage holds
 
@@ -46,11 +41,7 @@ module _ (ls : List SplitItem) (w : ℕ) (ss : List Stamp) where
   -- one stamp changes
   pub one_owner : (key : ℕ) (f : Stamp → Stamp) (h : Option Transaction) → aims ls h ≡ true → (key < length ss → OwnerOk h key (f (stamp_at ss key)).owner)
       → ((other : ℕ) → other < length ss → (other ≡ key → ⊥) → owned_by (stamp_at ss other).owner w ≡ holds ls h other) → Owns (modify key f ss) h
-  one_owner key f h a here there = record {
-    same_length = length_modify ss key f;
-    owners = λ other l. modify_cases (λ (st : Stamp). OwnerOk h other st.owner) ss key other f _ l (λ e. rw e (here (omega arith))) (λ n. (there other l n, λ j d. refl));
-    aimed = a;
-  }
+  one_owner key f h a here there = record { same_length = length_modify ss key f; owners = λ other l. grind (arith, get_or_modify, get_or_modify_other); aimed = a }
 
 -- a step of a hand that holds what the worker owns
 module _ {M : Type 0} (k : Model M) (keys : ℕ) (ls : List SplitItem) (w : ℕ) (ss : List Stamp) (place : ℕ) (table : List M) (t : Transaction)

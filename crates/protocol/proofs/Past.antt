@@ -1,5 +1,5 @@
 -- What happened, with one event more, and the order of what happened.
-use Rattle.protocol.proofs.Base.{◌≡◌, refl, sym, ap, subst, ◌∙◌, List, [], ◌∷◌, ◌++◌, append-nil, map, inl, inr, ℕ, zero, suc, ◌+◌, ◌≤◌, ◌<◌, arith, length, take, map-id, map_push, length_push, length_counting, get_or-range_with_len, map_counting_more, nth_getD, sum_by-append, none-some, same_Some, nth_within, nth_map, Option, Some, Ok, counting, mapped, sum_by, nth}
+use Rattle.protocol.proofs.Base.{◌≡◌, refl, sym, ap, subst, ◌∙◌, List, [], ◌∷◌, ◌++◌, append-nil, map, inl, inr, ℕ, zero, suc, ◌+◌, ◌≤◌, ◌<◌, arith, length, take, map-id, map_push, length_push, length_counting, get_or-range_with_len, map_counting_more, sum_by-append, none-some, nth_within, nth_map, Option, Some, Ok, counting, sum_by, nth, gets}
 use Rattle.protocol.specs.Rules.{Model, ReadAs, Transaction, Shape, Taking, Placing, Event, Taken, Placed, taking_in, placing_in, those, takings, placings, alone, values_by, readings_by, SameSlip, readings_of}
 use Rattle.protocol.proofs.Invariant.{Live, HasPlace, Past, ideal}
 use Rattle.protocol.proofs.Places.{nth_push, nth_longer}
@@ -31,11 +31,7 @@ module _ {A : Type 0} (f : Event → Option A) where
   -- where the numbers of what is found count up, each is known by how many come before it
   pub counted_at : (g : A → ℕ) (first n : ℕ) (es : List Event) (i : ℕ) (e : Event) (a : A) → map g (those f es) ≡ counting first n → nth es i ≡ Some e → f e ≡ Some a
       → (g a ≡ first + before es i) × (before es i < n)
-  counted_at g first n es i e a c h q =
-      let m = before es i in
-      let there : nth (counting first n) m ≡ Some (g a) = ap (λ ns. nth ns m) (sym c) ∙ nth_map g (those f es) m ∙ ap (mapped g) (found_at es i e a h q) in
-      let low : m < n = omega (arith, nth_within (counting first n) m (g a) there, length_counting first n) in
-      (same_Some (g a) (first + m) (sym there ∙ nth_getD (counting first n) m 0 (omega (arith, length_counting first n)) ∙ ap Some (get_or-range_with_len first n m 0 low)), low)
+  counted_at g first n es i e a c h q = let r = found_at es i e a h q in let m = nth_map g (those f es) (before es i) in grind (arith, gets, length_counting, get_or-range_with_len)
 
 -- one number more
 counting_more : (first n : ℕ) → counting first (suc n) ≡ counting first n ++ (first + n) ∷ []

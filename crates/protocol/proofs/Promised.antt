@@ -1,8 +1,7 @@
 -- The promise, from what holds of every world that turns lead to.
-use Rattle.protocol.proofs.Base.{◌≡◌, refl, sym, ap, ◌∙◌, Bool, true, cond, not, List, [], ◌∷◌, inl, inr, ℕ, zero, suc, ◌+◌, ◌≤◌, ◌<◌, arith, eqb, ℤ, length, take, length-take, none-some, sum_by-cons, get_or-le-sum_by, cases_order, and_parts, eq-eqb, not-true, tells, Option, Some, None, counting, option_is_some, sum_by, nth, rules, folded_map, same_lists, gets}
-use Rattle.protocol.specs.Rules.{Model, Laws, ran as alone_ran, Outcome, Committed, Conflict, TurnedAway, Phase, Joined, Ended, Stamp, outcome_code, Transaction, Shape, State, idle, row_at, stamp_at, place_in, place_of, split_in, is_split, Collect, Gave, Taking, Placing, Event, Taken, Placed, quiet, refuse_open, turn, taking_in, placing_in, placings, takings, World, alone, values_by, times_placed, RightlyTold, Kept, Promise, in_row, in_hand}
+use Rattle.protocol.proofs.Base.{◌≡◌, refl, sym, ap, ◌∙◌, Bool, true, cond, List, [], ◌∷◌, inl, inr, ℕ, zero, suc, ◌+◌, ◌≤◌, ◌<◌, arith, eqb, ℤ, length, take, length-take, none-some, sum_by-cons, get_or-le-sum_by, cases_order, eq-eqb, tells, Option, Some, None, counting, option_is_some, sum_by, nth, rules, folded_map, same_lists, gets}
+use Rattle.protocol.specs.Rules.{Model, Laws, Outcome, Committed, Conflict, TurnedAway, Phase, Joined, Ended, Stamp, outcome_code, Transaction, Shape, State, idle, row_at, stamp_at, place_in, place_of, split_in, is_split, Collect, Gave, Taking, Placing, Event, Taken, Placed, quiet, refuse_open, turn, taking_in, placing_in, placings, takings, World, values_by, times_placed, RightlyTold, Kept, Promise, in_row, in_hand}
 use Rattle.serial.proofs.Alone.{runs_alone}
-use Rattle.protocol.proofs.Allowed.{none_is}
 use Rattle.protocol.proofs.Invariant.{taken_weight, Past, owed, ideal, Inv}
 use Rattle.protocol.proofs.Operations.{length_applied}
 use Rattle.protocol.proofs.Owing.{gathered_none, unlocked_owes}
@@ -50,14 +49,13 @@ counts_once n first (suc m) =
 
 quiet_free : (ss : List Stamp) (key : ℕ) → quiet ss ≡ true → (stamp_at ss key).owner ≡ None
 quiet_free [] key h = refl
-quiet_free (st ∷ ss) zero h = none_is st.owner (not-true _ (and_parts _ _ h).0)
-quiet_free (st ∷ ss) (suc key) h = quiet_free ss key (and_parts (not (option_is_some st.owner)) (quiet ss) h).1
+quiet_free (st ∷ ss) zero h = grind arith
+quiet_free (st ∷ ss) (suc key) h = quiet_free ss key (grind arith)
 
 module _ {M : Type 0} (k : Model M) where
   length_by : (ps : List Placing) (vs : List M) → length (values_by k ps vs) ≡ length vs
   length_by [] vs = refl
-  length_by (p ∷ ps) vs =
-      length_by ps (alone k p vs).values ∙ ap length (runs_alone k p.worker p.entries vs).values ∙ length_applied k p.worker (alone_ran (alone k p vs).skipped p.entries) vs
+  length_by (p ∷ ps) vs = grind (arith, length_by ps, runs_alone k p.worker p.entries vs, length_applied)
 
   module _ (sh : Shape) (start : List M) (fine : refuse_open k sh start ≡ None) (x : World M) (inv : Inv k sh start x) where
     abbrev s : State

@@ -37,12 +37,9 @@ module _ {M : Type 0} (k : Model M) (sh : Shape) (start : List M) (x : World M) 
   -- the entry's operation is owed no more
   owes : (key : ℕ) → pending k sh ls w key (row_at s.rows w).current ≡ cond (eqb e.key key) (ops_of w e) [] ++ pending k sh ls w key row.current
   owes key =
-      let h = held in
-      let g = sharding in
-      let f = split in
       let a = writing_owes k sh ls w key (ran t) p (suc i) in
       let b = drop_one_more (ran t) i e next in
-      grind (arith, tells)
+      grind (arith, tells, held, sharding, split)
 
   -- its record is split, as item j of the list
   module _ (j : ℕ) (l : SplitItem) (found : find_split 0 ls e.key ≡ Some (j, l)) where

@@ -1,6 +1,6 @@
 -- Every turn keeps what holds of the engine between calls: its locks, its counts, and that whoever has acknowledged rests.
 use Rattle.protocol.proofs.Base.{◌≡◌, refl, sym, ap, ◌∙◌, Bool, true, false, List, [], ◌∷◌, map, ◌⊎◌, inl, inr, ℕ, zero, suc, ◌+◌, ◌≤◌, ◌<◌, ◌^◌, arith, length, set, replicate, get_or_past, length-set, length-map, get_or-replicate, tells, Option, Some, None, Ok, Err, rules, sum_by-replicate, get_or-map, common_steps}
-use Rattle.protocol.specs.Rules.{Model, Phase, Closing, Merging, SplitItem, Stamp, Transaction, Row, Shape, State, idle, row_at, stamp_at, with_current, split_in, first_of, owned_by, Moved, put_back, move, step_row, Call, Take, Draw, Step, Acknowledge, Merge, Collect, AnnounceSplit, AnnounceMerging, Release, next_phase, all_acknowledged, drawn, acknowledging, merging, revised, revise, opened, tests, makes, turn_by, turn, holds, aims, in_rows, may_rest, Counted, Sound, StaysSound}
+use Rattle.protocol.specs.Rules.{Model, Phase, Closing, Merging, SplitItem, Stamp, Transaction, Row, Shape, State, idle, row_at, stamp_at, with_current, split_in, owned_by, Moved, put_back, move, step_row, Call, Take, Draw, Step, Acknowledge, Merge, Collect, AnnounceSplit, AnnounceMerging, Release, next_phase, all_acknowledged, drawn, acknowledging, merging, revised, revise, opened, makes, turn, holds, aims, in_rows, may_rest, Counted, Sound, StaysSound}
 use Rattle.std.proofs.lemmas.List.{length-replicate}
 use Rattle.protocol.proofs.Allowed.{Allowed, allowed}
 use Rattle.protocol.proofs.Doing.{does}
@@ -133,11 +133,7 @@ module _ {M : Type 0} (k : Model M) (sh : Shape) where
     weighs f c = grind (arith, made_weighs)
 
     pub turn_sound : (c : Call) → Sound sh (turn k sh s table c).state
-    turn_sound c = go (first_of (tests k sh s table c)) refl
-      where
-        go : (o : Option (List ℕ)) → first_of (tests k sh s table c) ≡ o → Sound sh (turn_by k sh s table c o).state
-        go (Some code) e = sound
-        go None e = made_sound sh s sound k table c (allowed k sh s table c e)
+    turn_sound c = let m = made_sound sh s sound k table c in grind (arith, allowed)
 
 pub stays_sound_lem : {M : Type 0} (k : Model M) → StaysSound k
 stays_sound_lem k = search (rules, opened_sound, turn_sound)

@@ -73,7 +73,7 @@ module _ {M : Type 0} (k : Model M) (laws : Laws k) (sh : Shape) (start : List M
 
     -- a turn that changes nothing
     still : x ≡ record { state = s; table = x.table; events = x.events ++ [] }
-    still = λ i. record { state = s; table = x.table; events = sym (append-nil x.events) i }
+    still = grind (arith, append-nil)
 
     turn_fine : (c : Call) → Lawful c → (o : Option (List ℕ)) → first_of (tests k sh s x.table c) ≡ o → Fine (turn_by k sh s x.table c o)
     turn_fine c r o h = grind (arith, common_steps, makes_fine)
