@@ -1,7 +1,6 @@
 -- Every turn keeps what holds of the engine between calls: its locks, its counts, and that whoever has acknowledged rests.
-use Rattle.protocol.proofs.Base.{◌≡◌, refl, sym, ap, ◌∙◌, Bool, true, false, List, [], ◌∷◌, map, ◌⊎◌, inl, inr, ℕ, zero, suc, ◌+◌, ◌≤◌, ◌<◌, ◌^◌, arith, length, set, replicate, get_or_past, length-set, length-map, get_or-replicate, tells, Option, Some, None, Ok, Err, rules, sum_by-replicate, get_or-map, common_steps}
+use Rattle.protocol.proofs.Base.{length-replicate, ◌≡◌, refl, sym, ap, ◌∙◌, Bool, true, false, List, [], ◌∷◌, map, ◌⊎◌, inl, inr, ℕ, zero, suc, ◌+◌, ◌≤◌, ◌<◌, ◌^◌, arith, length, set, replicate, get_or_past, length-set, length-map, get_or-replicate, tells, Option, Some, None, Ok, Err, rules, sum_by-replicate, get_or-map, common_steps}
 use Rattle.protocol.specs.Rules.{Model, Phase, Closing, Merging, SplitItem, Stamp, Transaction, Row, Shape, State, idle, row_at, stamp_at, with_current, split_in, owned_by, Moved, put_back, move, step_row, Call, Take, Draw, Step, Acknowledge, Merge, Collect, AnnounceSplit, AnnounceMerging, Release, next_phase, all_acknowledged, drawn, acknowledging, merging, revised, revise, opened, makes, turn, holds, aims, in_rows, may_rest, Counted, Sound, StaysSound}
-use Rattle.std.proofs.lemmas.List.{length-replicate}
 use Rattle.protocol.proofs.Allowed.{Allowed, allowed}
 use Rattle.protocol.proofs.Doing.{does}
 use Rattle.protocol.proofs.Invariant.{placed_weight, taken_weight}
