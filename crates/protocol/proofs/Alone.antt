@@ -1,16 +1,16 @@
 -- Runs alone of the first entries of a transaction, and of all of them.
-use Rattle.protocol.proofs.Base.{◌≡◌, refl, sym, ap, subst, ◌∙◌, Bool, true, false, cond, ◌||◌, List, [], ◌∷◌, ◌++◌, append_assoc, append-nil, ℕ, zero, suc, ◌+◌, ◌≤◌, arith, leb, ℤ, length, take, drop, length-take, take-append-drop, take_all, none-some, same_Some, All-weaker, leb-true, not_from_false, false≢true, Option, Some, None, option_is_some, AllByRecursion, nth}
-use Rattle.protocol.specs.Rules.{Model, Action, Entry, tells, falls_short, applied, short_at, Alone, ran as alone_ran, peek, Ran, after, serial, Transaction, verb_of, changes, looks}
+use Rattle.protocol.proofs.Base.{◌≡◌, refl, sym, ap, ◌∙◌, true, cond, ◌||◌, List, [], ◌∷◌, ◌++◌, append_assoc, ℕ, zero, suc, ◌+◌, ◌≤◌, arith, leb, ℤ, length, take, drop, length-take, take-append-drop, take_all, none-some, same_Some, All-weaker, false≢true, Option, Some, None, option_is_some, AllByRecursion, nth}
+use Rattle.protocol.specs.Rules.{Model, Action, Entry, tells, falls_short, applied, short_at, Alone, ran as alone_ran, peek, after, serial, Transaction, looks}
 use Rattle.serial.proofs.Alone.{short_idle, runs_alone}
-use Rattle.serial.proofs.Steps.{follow, before_goes, before_stops}
-use Rattle.protocol.proofs.Places.{some_none, modify_agrees}
+use Rattle.serial.proofs.Steps.{follow}
+use Rattle.protocol.proofs.Places.{modify_agrees}
 use Rattle.protocol.specs.State.{ran}
 
 peek_agrees : {A : Type 0} (xs ys : List A) (i : ℕ) (f : A → ℤ) → nth xs i ≡ nth ys i → peek i f xs ≡ peek i f ys
 peek_agrees [] [] i f h = refl
 peek_agrees [] (y ∷ ys) zero f h = absurd (none-some y h)
 peek_agrees [] (y ∷ ys) (suc i) f h = peek_agrees [] ys i f h
-peek_agrees (x ∷ xs) [] zero f h = absurd (some_none x h)
+peek_agrees (x ∷ xs) [] zero f h = absurd (none-some x (sym h))
 peek_agrees (x ∷ xs) [] (suc i) f h = peek_agrees xs [] i f h
 peek_agrees (x ∷ xs) (y ∷ ys) zero f h = ap f (same_Some x y h)
 peek_agrees (x ∷ xs) (y ∷ ys) (suc i) f h = peek_agrees xs ys i f h
@@ -23,27 +23,7 @@ pub record Over (entries : List Entry) (done : ℕ) (skipped : Option ℕ) : Typ
 abbrev pub Finished : Transaction → Type 0
 Finished t = Over t.entries t.done t.skipped
 
-module _ {M : Type 0} where
-  -- an entry that tells z, and then the rest, unless it falls short
-  abbrev one : Bool → ℕ → List M → List ℤ → Ran M → Ran M
-  one short i us z rest = cond short (record { values = us; answers = z; skipped = Some i }) (follow z rest)
-
 module _ {M : Type 0} (k : Model M) (w : ℕ) where
-  serial_first : (i : ℕ) (e : Entry) (es : List Entry) (vs : List M)
-      → serial k w i (e ∷ es) vs ≡ one (falls_short k e e.action vs) i (after k w e e.action vs) (tells k e e.action vs) (serial k w (suc i) es (after k w e e.action vs))
-  serial_first i e es vs = go (falls_short k e e.action vs) refl
-    where
-      go : (b : Bool) → falls_short k e e.action vs ≡ b → serial k w i (e ∷ es) vs ≡ one b i (after k w e e.action vs) (tells k e e.action vs) (serial k w (suc i) es (after k w e e.action vs))
-      go true h = before_stops k w i e vs [] (serial k w (suc i) es (after k w e e.action vs)) e.action h
-      go false h = before_goes k w i e vs [] (serial k w (suc i) es (after k w e e.action vs)) e.action h
-
-  -- what an entry tells goes by the record that it looks at
-  tells_agrees : (e : Entry) (a : Action) (us vs : List M) → (option_is_some (verb_of a) ≡ false → nth us e.key ≡ nth vs e.key) → tells k e a us ≡ tells k e a vs
-  tells_agrees e a us vs h = grind (arith, peek_agrees us vs e.key)
-
-  falls_agrees : (e : Entry) (a : Action) (us vs : List M) → (option_is_some (verb_of a) ≡ false → nth us e.key ≡ nth vs e.key) → falls_short k e a us ≡ falls_short k e a vs
-  falls_agrees e a us vs h = grind (arith, peek_agrees us vs e.key)
-
   after_agrees : (e : Entry) (a : Action) (us vs : List M) (key : ℕ) → nth us key ≡ nth vs key → nth (after k w e a us) key ≡ nth (after k w e a vs) key
   after_agrees e a us vs key h = grind (arith, modify_agrees us vs e.key key)
 
@@ -61,58 +41,25 @@ module _ {M : Type 0} (k : Model M) (w : ℕ) where
   serial_agrees : (i : ℕ) (es : List Entry) (us vs : List M) → Agree es us vs
       → ((serial k w i es us).answers ≡ (serial k w i es vs).answers) × ((serial k w i es us).skipped ≡ (serial k w i es vs).skipped)
   serial_agrees i [] us vs h = (refl, refl)
-  serial_agrees i (e ∷ es) us vs h =
-      let look : changes e ≡ false → nth us e.key ≡ nth vs e.key = λ c. h.0 (not_from_false (changes e) c) in
-      let rest = serial_agrees (suc i) es (after k w e e.action us) (after k w e e.action vs) (agree_after e es us vs h.1) in
-      let a = falls_agrees e e.action us vs look in
-      let b = tells_agrees e e.action us vs look in
-      let p = serial_first i e es us in
-      let q = serial_first i e es vs in
-      rw (p, q) (grind arith)
+  serial_agrees i (e ∷ es) us vs h = grind (arith, serial_agrees (suc i) es, agree_after e es us vs, peek_agrees us vs e.key)
 
   pub gives_agrees : (es : List Entry) (us vs : List M) (zs : List ℤ) (skipped : Option ℕ) → Agree es us vs → Gives es vs zs skipped → Gives es us zs skipped
-  gives_agrees es us vs zs skipped h g = let a = serial_agrees 0 es us vs h in (a.0 ∙ g.0, a.1 ∙ g.1)
+  gives_agrees es us vs zs skipped h g = grind (arith, serial_agrees)
 
   -- behind entries that skip nothing the next ones go on
   serial_more : (i : ℕ) (es fs : List Entry) (vs : List M) → (serial k w i es vs).skipped ≡ None
       → serial k w i (es ++ fs) vs ≡ follow (serial k w i es vs).answers (serial k w (i + length es) fs (applied k w es vs))
   serial_more i [] fs vs h = let e : i ≡ i + 0 = omega arith in ap (λ n. serial k w n fs vs) e
-  serial_more i (e ∷ es) fs vs h =
-      let us = after k w e e.action vs in
-      let p = serial_first i e es vs in
-      let q = serial_first i e (es ++ fs) vs in
-      let g = ap (λ (x : Ran M). x.skipped) (sym p) ∙ h in
-      let n : suc i + length es ≡ i + suc (length es) = omega arith in
-      let r = serial_more (suc i) es fs us in
-      let rest = serial k w (i + suc (length es)) fs (applied k w es us) in
-      let c = append_assoc (tells k e e.action vs) (serial k w (suc i) es us).answers rest.answers in
-      rw (q, p) (grind arith)
+  serial_more i (e ∷ es) fs vs h = let r = serial_more (suc i) es fs (after k w e e.action vs) in grind (arith, append_assoc)
 
   -- and behind a skip nothing is done
   serial_stops : (i : ℕ) (es fs : List Entry) (vs : List M) (j : ℕ) → (serial k w i es vs).skipped ≡ Some j → serial k w i (es ++ fs) vs ≡ serial k w i es vs
   serial_stops i [] fs vs j h = absurd (none-some j h)
-  serial_stops i (e ∷ es) fs vs j h =
-      let p = serial_first i e es vs in
-      let q = serial_first i e (es ++ fs) vs in
-      let g = ap (λ (x : Ran M). x.skipped) (sym p) ∙ h in
-      let r = serial_stops (suc i) es fs (after k w e e.action vs) j in
-      rw (q, p) (grind arith)
-
-  -- one entry more
-  last : (b : Bool) (n : ℕ) (us : List M) (z : List ℤ) → ((one b n us z (record { values = us; answers = []; skipped = None })).answers ≡ z) × ((one b n us z (record { values = us; answers = []; skipped = None })).skipped ≡ cond b (Some n) None)
-  last b n us z = grind (arith, append-nil z)
+  serial_stops i (e ∷ es) fs vs j h = let r = serial_stops (suc i) es fs (after k w e e.action vs) j in grind arith
 
   pub gives_more : (es : List Entry) (e : Entry) (vs : List M) (zs : List ℤ) → Gives es vs zs None
       → Gives (es ++ (e ∷ [])) vs (zs ++ tells k e e.action (applied k w es vs)) (cond (falls_short k e e.action (applied k w es vs)) (Some (length es)) None)
-  gives_more es e vs zs g =
-      let us = applied k w es vs in
-      let n : 0 + length es ≡ length es = omega arith in
-      let p = serial_more 0 es (e ∷ []) vs g.1 ∙ ap (λ m. follow (serial k w 0 es vs).answers (serial k w m (e ∷ []) us)) n in
-      let q = serial_first (length es) e [] us in
-      let r = last (falls_short k e e.action us) (length es) (after k w e e.action us) (tells k e e.action us) in (
-        ap (λ (x : Ran M). x.answers) p ∙ ap (λ (x : Ran M). (serial k w 0 es vs).answers ++ x.answers) q ∙ (λ i. g.0 i ++ r.0 i),
-        ap (λ (x : Ran M). x.skipped) p ∙ ap (λ (x : Ran M). x.skipped) q ∙ r.1,
-      )
+  gives_more es e vs zs g = grind (arith, serial_more)
 
   -- the `need` that skips the rest changes nothing
   short_last : (j : ℕ) (es : List Entry) (vs : List M) → short_at k w j es vs ≡ true → length es ≤ suc j → applied k w (take j es) vs ≡ applied k w es vs
@@ -133,9 +80,7 @@ module _ {M : Type 0} (k : Model M) (w : ℕ) where
       is v i = record { values = v i; answers = g.0 i; skipped = g.1 i }
 
       go : (o : Option ℕ) → t.skipped ≡ o → serial k w 0 t.entries vs ≡ record { values = applied k w (ran t) vs; answers = t.answers; skipped = t.skipped }
-      go None h =
-          let done : length t.entries ≤ t.done = leb-true (length t.entries) t.done (subst (λ (o : Option ℕ). (option_is_some o || leb (length t.entries) t.done) ≡ true) h f.run) in
-          ap (λ es. serial k w 0 es vs) (sym (take_all t.done t.entries done)) ∙ is (all.values ∙ ap (λ o. applied k w (alone_ran o (ran t)) vs) (g.1 ∙ h))
+      go None h = grind (arith, take_all, all)
       go (Some j) h =
           let s = g.1 ∙ h in
           let v = all.values ∙ ap (λ o. applied k w (alone_ran o (ran t)) vs) s ∙ short_last j (ran t) vs (all.stopped j s) (omega (arith, length-take t.done t.entries, f.last j h)) in

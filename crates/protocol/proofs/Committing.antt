@@ -1,12 +1,12 @@
 -- The check that finds no conflict: the transaction gets the next place, and what it read is what it reads alone at that place.
-use Rattle.protocol.proofs.Base.{◌≡◌, refl, sym, ap, subst, ◌∙◌, true, false, List, [], ◌∷◌, ◌++◌, append-nil, ◌⊎◌, inl, inr, ℕ, suc, ◌<◌, arith, length, same_Some, nth_seam, All-weaker, cases_eq, cases_Bool, tells, Option, Some, None, mapped, nth}
-use Rattle.protocol.specs.Rules.{Model, Laws, Operation, applied, Ran, serial, Checking, SplitItem, Stage, Transaction, Row, Shape, State, row_at, stamp_at, at_stage, with_current, ops_on, apply_all, split_in, is_split, after_check, first_conflict, Placing, Event, Placed, placing, World, writes, holds_at, holds}
+use Rattle.protocol.proofs.Base.{◌≡◌, refl, sym, ap, subst, ◌∙◌, true, false, List, [], ◌∷◌, ◌++◌, append-nil, ◌⊎◌, inl, inr, ℕ, suc, ◌<◌, arith, length, same_Some, nth_seam, All-weaker, cases_eq, cases_Bool, tells, Option, Some, None, mapped, nth, mapped_id}
+use Rattle.protocol.specs.Rules.{Model, Laws, Operation, applied, Ran, serial, Checking, SplitItem, Transaction, Row, Shape, State, row_at, stamp_at, at_stage, with_current, ops_on, apply_all, split_in, is_split, after_check, first_conflict, Placing, Event, Placed, placing, World, writes, holds_at, holds}
 use Rattle.protocol.proofs.Alone.{Finished, Agree, gives_agrees, whole}
 use Rattle.protocol.proofs.Commuting.{last_done}
 use Rattle.protocol.proofs.Frames.{ready_longer, after, moves_row, merged_step, Goes}
-use Rattle.protocol.proofs.Invariant.{Faithful, StageOk, HandOk, pending_at, pending, owed, gathered, ideal, Inv}
+use Rattle.protocol.proofs.Invariant.{Faithful, StageOk, HandOk, owed, gathered, ideal, Inv}
 use Rattle.protocol.proofs.Notes.{free_or_own, no_conflict, noted_has}
-use Rattle.protocol.proofs.Operations.{no_writes, mapped_none, applied_at}
+use Rattle.protocol.proofs.Operations.{no_writes, applied_at}
 use Rattle.protocol.proofs.Owing.{gathered_same, gathered_none, unlocked_owes, owes_then, values_by}
 use Rattle.protocol.proofs.Past.{ideal_placed, past_placed}
 use Rattle.protocol.proofs.Places.{all_both, mapped_mapped, mapped_same}
@@ -51,7 +51,7 @@ module _ {M : Type 0} (k : Model M) (laws : Laws k) (sh : Shape) (start : List M
   checked = subst (StageOk k sh ls s.stamps x.table w t) checking hand.stage
 
   own_before : (key : ℕ) → owed k sh s ops key w ≡ ops w key
-  own_before key = ap (λ (o : Option Transaction). ops w key ++ pending k sh ls w key o) held ∙ ap (λ (g : Stage). ops w key ++ pending_at k sh ls w key (ran t) g) checking ∙ append-nil (ops w key)
+  own_before key = grind (arith, append-nil)
 
   -- what each worker owes now: the transaction's operations are owed too
   owes_now : (key j : ℕ) → ((j ≡ w) × (now key j ≡ owed k sh s ops key w ++ ops_on w key (ran t))) ⊎ ((j ≡ w → ⊥) × (owed k sh s ops key j ≡ now key j))
@@ -69,7 +69,7 @@ module _ {M : Type 0} (k : Model M) (laws : Laws k) (sh : Shape) (start : List M
         | inl d ↦ rw d (own_before e.key ∙ inv.kept.values.unsplit w e.key inside n.0.2)
         | inr d ↦ unlocked_owes k sh start x inv e.key j n.0.0 v n.0.2 (λ o. let own = free_or_own _ w n.1.1 in d (grind arith))
       ]) in
-      inv.kept.values.values e.key n.0.0 ∙ ap (λ os. mapped (apply_all k os) (nth x.table e.key)) none ∙ mapped_none k (nth x.table e.key)) (ran t) checked.0.covers
+      inv.kept.values.values e.key n.0.0 ∙ ap (λ os. mapped (apply_all k os) (nth x.table e.key)) none ∙ mapped_id (nth x.table e.key)) (ran t) checked.0.covers
 
   alone_is : serial k w 0 t.entries vs ≡ record { values = applied k w (ran t) vs; answers = t.answers; skipped = t.skipped }
   alone_is = whole k w t vs checked.1 (gives_agrees k w (ran t) vs x.table t.answers t.skipped agree

@@ -1,16 +1,16 @@
 -- What the three laws give: operations of one part and verb that split commute, and a shard that began fresh is its operations.
-use Rattle.protocol.proofs.Base.{◌≡◌, refl, sym, ap, subst, ◌∙◌, true, false, List, [], ◌∷◌, ◌++◌, ◌⊎◌, inl, inr, ℕ, ◌<◌, arith, T, same_Some, Some, AllByRecursion}
+use Rattle.protocol.proofs.Base.{◌≡◌, refl, sym, subst, ◌∙◌, true, false, List, [], ◌∷◌, ◌++◌, ◌⊎◌, inl, inr, ℕ, ◌<◌, arith, same_Some, Some, AllByRecursion}
 use Rattle.protocol.specs.Rules.{Model, Rule, Laws, Operation, SplitItem, Shape, State, stamp_at, apply_all, split_in, find_split, is_split, World}
 use Rattle.protocol.proofs.Invariant.{owed, gathered, Fits, Inv}
 use Rattle.protocol.proofs.Operations.{apply_append}
 use Rattle.protocol.proofs.Owing.{Around, gathered_one, gathered_at, unlocked_owes}
-use Rattle.protocol.proofs.Shards.{split_item, fits_owed}
+use Rattle.protocol.proofs.Shards.{fits_owed}
 use Rattle.protocol.proofs.Splits.{split_found, found_at, good_item}
 
 -- what holds of all of a joined list holds of its two parts
 pub all_parts : {A : Type 0} (P : A → Type 0) (xs ys : List A) → AllByRecursion P (xs ++ ys) → AllByRecursion P xs × AllByRecursion P ys
 all_parts P [] ys h = (tt, h)
-all_parts P (x ∷ xs) ys h = let r = all_parts P xs ys h.1 in ((h.0, r.0), r.1)
+all_parts P (x ∷ xs) ys h = grind (arith, all_parts P xs ys h.1)
 
 module _ {M : Type 0} (k : Model M) (laws : Laws k) (sh : Shape) (l : SplitItem) (splits : (k.rule l.part l.verb).splits ≡ true) where
   abbrev rule : Rule M
@@ -19,44 +19,32 @@ module _ {M : Type 0} (k : Model M) (laws : Laws k) (sh : Shape) (l : SplitItem)
   abbrev does : Operation → M → M
   does o x = (k.rule o.part o.verb).apply o.argument x
 
-  split : T rule.splits
-  split = subst T (sym splits) tt
-
-  taken : (o : Operation) → Fits k sh l o → T (rule.takes o.argument)
-  taken o f = subst T (sym f.2 ∙ (λ i. (k.rule (f.0 i) (f.1 i)).takes o.argument)) tt
-
-  two_commute : (o p : Operation) (x : M) → Fits k sh l o → Fits k sh l p → does o (does p x) ≡ does p (does o x)
-  two_commute o p x f g = let a = (laws.lawful l.part l.verb).commutes o.argument p.argument x split (taken o f) (taken p g) in cc
-
   one_through : (o : Operation) (os : List Operation) (x : M) → Fits k sh l o → AllByRecursion (Fits k sh l) os → apply_all k os (does o x) ≡ does o (apply_all k os x)
   one_through o [] x f g = refl
-  one_through o (p ∷ os) x f g = ap (apply_all k os) (two_commute p o x g.0 f) ∙ one_through o os (does p x) f g.1
+  one_through o (p ∷ os) x f g = grind (arith, one_through o os)
 
   lists_commute : (os ps : List Operation) (x : M) → AllByRecursion (Fits k sh l) os → AllByRecursion (Fits k sh l) ps → apply_all k ps (apply_all k os x) ≡ apply_all k os (apply_all k ps x)
   lists_commute [] ps x f g = refl
-  lists_commute (o ∷ os) ps x f g = lists_commute os ps (does o x) f.1 g ∙ ap (apply_all k os) (one_through o ps x f.0 g)
+  lists_commute (o ∷ os) ps x f g = grind (arith, lists_commute os ps, one_through)
 
   -- some of many may be done first, or last
   apply_first : (before os rest behind : List Operation) (x : M) → AllByRecursion (Fits k sh l) before → AllByRecursion (Fits k sh l) os
       → apply_all k (before ++ ((os ++ rest) ++ behind)) x ≡ apply_all k (before ++ (rest ++ behind)) (apply_all k os x)
-  apply_first before os rest behind x f g = simp (apply_append k) (ap (λ (z : M). apply_all k behind (apply_all k rest z)) (lists_commute before os x f g))
+  apply_first before os rest behind x f g = grind (arith, apply_append, lists_commute)
 
   apply_last : (before rest os behind : List Operation) (x : M) → AllByRecursion (Fits k sh l) os → AllByRecursion (Fits k sh l) behind
       → apply_all k (before ++ ((rest ++ os) ++ behind)) x ≡ apply_all k os (apply_all k (before ++ (rest ++ behind)) x)
-  apply_last before rest os behind x f g = simp (apply_append k) (lists_commute os behind (apply_all k rest (apply_all k before x)) f g)
+  apply_last before rest os behind x f g = grind (arith, apply_append, lists_commute)
 
   -- what was done to a shard is done by merging it
   merge_applied : (os : List Operation) (y x : M) → AllByRecursion (Fits k sh l) os → rule.merge (apply_all k os y) x ≡ apply_all k os (rule.merge y x)
   merge_applied [] y x f = refl
-  merge_applied (o ∷ os) y x f =
-      let a = (laws.lawful l.part l.verb).passes o.argument y x split (taken o f.0) in
-      let b = merge_applied os (does o y) x f.1 in
-      cc
+  merge_applied (o ∷ os) y x f = grind (arith, merge_applied os, laws.lawful)
 
   -- a shard that began fresh, merged, is its operations
   pub merge_all : (os : List Operation) (base x : M) → AllByRecursion (Fits k sh l) os
       → (k.rule l.part l.verb).merge (apply_all k os ((k.rule l.part l.verb).fresh base)) x ≡ apply_all k os x
-  merge_all os base x fit = merge_applied os (rule.fresh base) x fit ∙ ap (apply_all k os) ((laws.lawful l.part l.verb).neutral base x split)
+  merge_all os base x fit = grind (arith, merge_applied)
 
 -- what one worker owes may be done first, and what it comes to owe last: on a split record all operations commute, and on one that it has locked no other worker owes anything
 module _ {M : Type 0} (k : Model M) (laws : Laws k) (sh : Shape) (start : List M) (x : World M) (inv : Inv k sh start x) (w : ℕ) (inside : w < sh.workers) (key : ℕ) (low : key < sh.keys) where
@@ -83,7 +71,7 @@ module _ {M : Type 0} (k : Model M) (laws : Laws k) (sh : Shape) (start : List M
     item h = split_found ls key h
 
     splits : (h : is_split ls key ≡ true) → (k.rule (item h).1.part (item h).1.verb).splits ≡ true
-    splits h = (good_item k sh.keys 0 s.split (item h).0 (item h).1 inv.kept.sized.split_good (split_item s.phase s.split (item h).0 (item h).1 (found_at ls key (item h).0 (item h).1 (item h).2).0).0).splits
+    splits h = grind (arith, good_item, found_at)
 
     fit : (h : is_split ls key ≡ true) → AllByRecursion (Fits k sh (item h).1) (around.before ++ (owes w ++ around.behind))
     fit h = subst (AllByRecursion (Fits k sh (item h).1)) around.first (fits_owed k sh start x inv key (item h).0 (item h).1 (item h).2 sh.workers (omega arith))

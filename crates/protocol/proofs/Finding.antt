@@ -1,6 +1,6 @@
 -- The first entry that a test finds, and entries in which the tests of a taking find nothing.
-use Rattle.protocol.proofs.Base.{cases_Bool, inl, inr, ◌≡◌, refl, Bool, true, false, List, [], ◌∷◌, ℕ, suc, ◌+◌, ◌<◌, arith, take, none-some, All-weaker, leb-false, not-false, Some, None, AllByRecursion, nth}
-use Rattle.protocol.specs.Rules.{Model, Entry, first_entry, no_record, takes, not_taken, late}
+use Rattle.protocol.proofs.Base.{cases_Bool, inl, inr, ◌≡◌, refl, Bool, true, false, List, [], ◌∷◌, ℕ, suc, ◌+◌, ◌<◌, arith, take, none-some, All-weaker, not-false, Some, None, AllByRecursion, nth}
+use Rattle.protocol.specs.Rules.{Model, Entry, first_entry, takes, late}
 use Rattle.protocol.proofs.Places.{all_both}
 
 module _ (test : Entry → Bool) where
@@ -19,14 +19,13 @@ module _ (test : Entry → Bool) where
     | inl t ↦ record { number = 0; entry = e; counted = grind arith; there = refl; passes = t; before = tt }
     | inr t ↦
         let r = found (suc i) es j (grind arith) in
-        record { number = suc r.number; entry = r.entry; counted = let c = r.counted in omega arith; there = r.there; passes = r.passes; before = (t, r.before) }
+        record { number = suc r.number; entry = r.entry; counted = omega (arith, r.counted); there = r.there; passes = r.passes; before = (t, r.before) }
   ]
 
   pub not_found : (i : ℕ) (es : List Entry) → first_entry test i es ≡ None → AllByRecursion (λ e. test e ≡ false) es
   not_found i [] h = tt
-  not_found i (e ∷ es) h = (grind arith, not_found (suc i) es (grind arith))
+  not_found i (e ∷ es) h = grind (arith, not_found (suc i) es)
 
 -- entries that passed the tests of a taking have records, and the kind takes them
 pub admitted : {M : Type 0} (k : Model M) (keys w : ℕ) (es : List Entry) → late k keys w es ≡ None → AllByRecursion (λ e. (e.key < keys) × (takes k w e e.action ≡ true)) es
-admitted k keys w es h = All-weaker _ _ (λ e g. (leb-false keys e.key g.0, not-false (takes k w e e.action) g.1)) es
-    (all_both _ _ es (not_found (no_record keys) 0 es (grind arith)) (not_found (not_taken k w) 0 es (grind arith)))
+admitted k keys w es h = grind (arith, All-weaker, not-false, all_both, not_found)

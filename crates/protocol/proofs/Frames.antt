@@ -1,8 +1,8 @@
 -- What a turn of one worker leaves of the others, and what it has to show for itself.
-use Rattle.protocol.proofs.Base.{◌≡◌, refl, ap, ◌∙◌, true, false, List, ◌++◌, ℕ, ◌≤◌, ◌<◌, arith, leb, length, set, All-weaker, and_from, le-leb, Option, Some, AllByRecursion, nth}
-use Rattle.protocol.specs.Rules.{Model, Phase, SplitItem, Stage, Running, Locking, Checking, Writing, Sharding, Ended, Stamp, Transaction, Row, Shape, State, idle, row_at, stamp_at, split_in, is_split, Moved, put_back, Event, World, writes, holds_at, holds}
+use Rattle.protocol.proofs.Base.{◌≡◌, ap, ◌∙◌, true, false, List, ◌++◌, ℕ, ◌≤◌, ◌<◌, arith, length, set, All-weaker, Option, Some, AllByRecursion, nth}
+use Rattle.protocol.specs.Rules.{Model, Phase, SplitItem, Stamp, Transaction, Row, Shape, State, idle, row_at, stamp_at, split_in, is_split, Moved, put_back, Event, World, holds_at, holds}
 use Rattle.protocol.proofs.Alone.{gives_agrees}
-use Rattle.protocol.proofs.Invariant.{Past, Ready, Faithful, StageOk, HandOk, MergedOk, RowOk, ValuesOk, ideal, Kept, Inv}
+use Rattle.protocol.proofs.Invariant.{Past, Ready, Faithful, HandOk, MergedOk, RowOk, ValuesOk, ideal, Kept, Inv}
 use Rattle.protocol.proofs.Notes.{noted_has}
 use Rattle.protocol.proofs.Places.{nth_longer, all_both, set_cases}
 use Rattle.protocol.specs.State.{ran}
@@ -37,22 +37,8 @@ module _ {M : Type 0} (k : Model M) (sh : Shape) where
 
     -- and so does all that holds of a transaction, if what it has locked keeps its versions
     module _ (es new : List Event) (locked : (key : ℕ) → key < sh.keys → holds_at ls (ran t) key t.stage ≡ true → (stamp_at ss' key).version ≡ (stamp_at ss key).version) where
-      stage_grows : (a : Stage) → t.stage ≡ a → StageOk k sh ls ss table w t a → StageOk k sh ls ss' table' w t a
-      stage_grows Running e h = (faithful_grows h.0, h.1)
-      stage_grows (Locking c) e h = (faithful_grows h.0, h.1)
-      stage_grows Checking e h = (faithful_grows h.0, h.1)
-      stage_grows (Writing p c) e h =
-          λ key l a b. omega (arith, h key l a b, locked key l (ap (holds_at ls (ran t) key) e ∙ and_from (writes ls (ran t) key) (leb c key) a (le-leb c key b)))
-      stage_grows (Sharding p i) e h = h
-      stage_grows (Ended o) e h = tt
-
       pub hand_grows : HandOk k sh ls ss table es w t → HandOk k sh ls ss' table' (es ++ new) w t
-      hand_grows h = record {
-        ready = ready_longer es new w t h.ready;
-        chosen = h.chosen;
-        placed = λ p e. ((h.placed p e).0, nth_longer es new _ _ (h.placed p e).1);
-        stage = stage_grows t.stage refl h.stage;
-      }
+      hand_grows h = grind (arith, nth_longer, faithful_grows)
 
 module _ {M : Type 0} (k : Model M) (sh : Shape) (start : List M) (x : World M) (w ticket place : ℕ) (ss : List Stamp) (r : Row) (table : List M) (new : List Event) where
   abbrev s : State
@@ -112,18 +98,7 @@ module _ {M : Type 0} (k : Model M) (sh : Shape) (start : List M) (x : World M) 
     pub moves_row : table ≡ x.table → length ss ≡ length s.stamps → ((key : ℕ) → (stamp_at ss key).version ≡ (stamp_at s.stamps key).version) → s.place ≤ place → Past k sh start (x.events ++ new) ticket place
         → ((t : Transaction) → r.current ≡ Some t → HandOk k sh ls ss table (x.events ++ new) w t) → AllByRecursion (Ready k sh (x.events ++ new) w) r.stash → MergedOk k sh s.phase (length s.split) r
         → ValuesOk k sh after.state table (ideal k sh start (x.events ++ new)) → Kept k sh start after
-    moves_row same len versions low past hand stash merged values = moves (record {
-      table_len = ap length same;
-      stamps_len = len;
-      grows = record { up = λ key. omega (arith, versions key); still = λ key l f e. ap (λ us. nth us key) same };
-      versions = λ key. omega (arith, versions key, inv.kept.sized.versions key);
-      locked = λ key j d e. versions key;
-      past = past;
-      hand = hand;
-      stash = stash;
-      merged = merged;
-      values = values;
-    })
+    moves_row same len versions low past hand stash merged values = grind (arith, moves)
 
 -- what a step of a worker has to show
 abbrev pub Goes : {M : Type 0} → Model M → Shape → List M → World M → ℕ → Moved M → List Event → Type 0

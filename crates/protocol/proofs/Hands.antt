@@ -1,5 +1,5 @@
 -- Turns that change one row and nothing else: taking, drawing, collecting, acknowledging.
-use Rattle.protocol.proofs.Base.{◌≡◌, refl, sym, ap, subst, ◌∙◌, true, false, List, [], ◌∷◌, ◌++◌, ◌⊎◌, ℕ, suc, ◌≤◌, ◌<◌, arith, length, none-some, same_Some, nth_seam, All-weaker, ltb-false, Option, Some, None, Ok, AllByRecursion}
+use Rattle.protocol.proofs.Base.{◌≡◌, refl, sym, ap, subst, ◌∙◌, true, false, List, [], ◌∷◌, ◌++◌, ◌⊎◌, ℕ, suc, ◌≤◌, ◌<◌, arith, length, none-some, nth_seam, All-weaker, Option, Some, None, Ok, AllByRecursion, common_steps, rules}
 use Rattle.protocol.specs.Rules.{Model, ReadAs, Entry, Phase, Joined, Closing, Split, Merging, SplitItem, late, Transaction, Shape, State, Row, row_at, begin, with_current, split_in, Taking, Event, Taken, left_over, drawn, acknowledging, has_ended, World}
 use Rattle.protocol.proofs.Frames.{ready_longer, after}
 use Rattle.protocol.proofs.Invariant.{Ready, HandOk, MergedOk, pending, Kept, Inv}
@@ -25,8 +25,7 @@ module _ {M : Type 0} (k : Model M) (sh : Shape) (start : List M) (x : World M) 
 
   -- a transaction that begins
   begins : (new : List Event) (u : Transaction) → Ready k sh (x.events ++ new) w u → (t : Transaction) → Some (begin u.ticket u.entries) ≡ Some t → HandOk k sh ls s.stamps x.table (x.events ++ new) w t
-  begins new u ready t e = subst (HandOk k sh ls s.stamps x.table (x.events ++ new) w) (same_Some _ t e)
-      (record { ready = ready; chosen = tt; placed = λ p h. absurd (none-some p h); stage = (record { covers = tt; bounds = tt; agrees = λ _. (refl, refl) }, refl) })
+  begins new u ready t e = grind arith
 
   -- a row with no more merged, where nothing is merged yet or the hand is empty
   unmerged : (p : Phase) (r : Row) → r.merged ≡ row.merged → (p ≡ Merging → (r.current ≡ None) × (r.acknowledged ≡ true → length s.split ≤ row.merged))
@@ -49,9 +48,7 @@ module _ {M : Type 0} (k : Model M) (sh : Shape) (start : List M) (x : World M) 
   draws_ok empty phase = go row.stash (stash_longer [])
     where
       go : (ts : List Transaction) → AllByRecursion (Ready k sh (x.events ++ []) w) ts → To (drawn row ts) [] s.ticket
-      go [] ready = stays_owing k sh start x inv w s.stamps row inside refl (λ key. refl) (nothing row.current empty) (stash_longer []) (inv.kept.rows w).merged refl (λ key. refl)
-      go (t ∷ ts) ready =
-          stays_owing k sh start x inv w s.stamps (drawn row (t ∷ ts)) inside refl (λ key. refl) (begins [] t ready.0) ready.1 (unmerged s.phase _ refl (λ m. absurd (grind arith)) (inv.kept.rows w).merged) refl (λ key. ap (pending k sh ls w key) (sym empty))
+      go ts ready = search (rules, stays_owing)
 
   -- an ended transaction owes nothing
   ended_owes : (ticket : ℕ) (o : Option Transaction) (key : ℕ) → has_ended ticket o ≡ true → pending k sh ls w key o ≡ []
@@ -63,6 +60,4 @@ module _ {M : Type 0} (k : Model M) (sh : Shape) (start : List M) (x : World M) 
       (unmerged s.phase _ refl (λ m. (refl, (subst (λ (q : Phase). MergedOk k sh q (length s.split) row) m (inv.kept.rows w).merged).1)) (inv.kept.rows w).merged) refl (λ key. sym (ended_owes ticket row.current key ended))
 
   pub acknowledges_ok : row.current ≡ None → left_over s.phase (length s.split) row ≡ false → To (acknowledging true row) [] s.ticket
-  acknowledges_ok empty done =
-      stays_owing k sh start x inv w s.stamps (acknowledging true row) inside refl (λ key. refl) (nothing row.current empty) (stash_longer [])
-      (unmerged s.phase _ refl (λ m. (empty, λ _. ltb-false row.merged (length s.split) (subst (λ (q : Phase). left_over q (length s.split) row ≡ false) m done))) (inv.kept.rows w).merged) refl (λ key. refl)
+  acknowledges_ok empty done = grind (arith, common_steps, stays_owing)

@@ -1,18 +1,10 @@
 -- Who owns which record: what each stage holds, and what a step locks and frees.
-use Rattle.protocol.proofs.Base.{cases_eq, inl, inr, ◌≡◌, refl, sym, ◌∙◌, Bool, true, ◌&&◌, List, ℕ, suc, ◌<◌, arith, leb, ltb, length, get_or, get_or-map, length-map, tells, Option, Some, None}
-use Rattle.protocol.specs.Rules.{Model, Entry, modify, SplitItem, Stage, Running, Stamp, Transaction, Row, stamp_at, at_stage, after_running, after_writing, after_check, owned_by, lock_for, free_own, stamped, one_more, settled, Moved, put_aside, put_back, Event, writes, holds_at, holds, aims_at, aims}
+use Rattle.protocol.proofs.Base.{◌≡◌, refl, Bool, true, ◌&&◌, List, ℕ, suc, ◌<◌, arith, leb, ltb, length, get_or-map, length-map, tells, Option, Some, None}
+use Rattle.protocol.specs.Rules.{Model, Entry, modify, SplitItem, Stage, Running, Stamp, Transaction, Row, stamp_at, at_stage, after_running, after_check, owned_by, lock_for, free_own, stamped, one_more, settled, Moved, put_aside, put_back, Event, writes, holds_at, holds, aims_at, aims}
 use Rattle.protocol.proofs.Doing.{Does, rests, reads, strays_off, clashes, locks, places, writes_on, shards}
 use Rattle.protocol.proofs.Places.{length_modify, get_or_modify, get_or_modify_other}
 use Rattle.protocol.proofs.Targets.{next_key}
 use Rattle.protocol.specs.State.{ran}
-
--- what holds of a place of a list where one element was changed
-modify_cases : {A : Type 0} (P : A → Type 0) (xs : List A) (i j : ℕ) (f : A → A) (d : A) → j < length xs → (j ≡ i → P (f (get_or xs j d))) → ((j ≡ i → ⊥) → P (get_or xs j d))
-    → P (get_or (modify i f xs) j d)
-modify_cases P xs i j f d l here there = elim (cases_eq j i) [
-  | inl e ↦ rw (← e, get_or_modify xs j f d l) (here e)
-  | inr n ↦ rw (get_or_modify_other xs i j f d n) (there n)
-]
 
 -- ---- what the next stage holds
 
@@ -44,16 +36,12 @@ module _ (ls : List SplitItem) (w : ℕ) (ss : List Stamp) where
   -- the stamps stay, and so does what is held
   pub still : (old new : Option Transaction) → ((key : ℕ) → key < length ss → owned_by (stamp_at ss key).owner w ≡ holds ls old key)
       → ((key : ℕ) → holds ls new key ≡ holds ls old key) → aims ls new ≡ true → Owns ss new
-  still old new held same a = record { same_length = refl; owners = λ key l. (held key l ∙ sym (same key), λ j d. refl); aimed = a }
+  still old new held same a = grind arith
 
   -- one stamp changes
   pub one_owner : (key : ℕ) (f : Stamp → Stamp) (h : Option Transaction) → aims ls h ≡ true → (key < length ss → OwnerOk h key (f (stamp_at ss key)).owner)
       → ((other : ℕ) → other < length ss → (other ≡ key → ⊥) → owned_by (stamp_at ss other).owner w ≡ holds ls h other) → Owns (modify key f ss) h
-  one_owner key f h a here there = record {
-    same_length = length_modify ss key f;
-    owners = λ other l. modify_cases (λ (st : Stamp). OwnerOk h other st.owner) ss key other f _ l (λ e. rw e (here (omega arith))) (λ n. (there other l n, λ j d. refl));
-    aimed = a;
-  }
+  one_owner key f h a here there = record { same_length = length_modify ss key f; owners = λ other l. grind (arith, get_or_modify, get_or_modify_other); aimed = a }
 
 -- a step of a hand that holds what the worker owns
 module _ {M : Type 0} (k : Model M) (keys : ℕ) (ls : List SplitItem) (w : ℕ) (ss : List Stamp) (place : ℕ) (table : List M) (t : Transaction)
@@ -86,4 +74,4 @@ module _ {M : Type 0} (k : Model M) (keys : ℕ) (ls : List SplitItem) (w : ℕ)
       let a = after_check_holds ls (ran t) p (suc key) in
       one_owner ls w ss key (stamped p) (Some (at_stage t (after_check ls (ran t) p (suc key)))) a.0
       (λ l. (grind (arith, tells, a.1 key), λ j d. grind (arith, tells, held key l))) (λ other l n. grind (arith, tells, a.1 other, held other l))
-  step_owns r (shards p i e g there) = stays (Some (at_stage t (after_writing ls (ran t) p (suc i)))) (λ key. grind arith) (grind arith)
+  step_owns r (shards p i e g there) = grind arith

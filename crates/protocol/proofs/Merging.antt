@@ -1,11 +1,11 @@
 -- A worker merges its next shard.
-use Rattle.protocol.proofs.Base.{◌≡◌, refl, sym, ap, subst, ◌∙◌, true, false, List, [], ◌++◌, ◌⊎◌, inl, inr, ℕ, suc, ◌<◌, arith, length, All-weaker, get_or_past, nth_getD, nth_past, cases_eq, Option, Some, None, option_is_some, mapped, nth}
-use Rattle.protocol.specs.Rules.{Model, Laws, Operation, modify, Merging, SplitItem, Stamp, Transaction, Shape, State, Row, row_at, stamp_at, split_in, find_split, is_split, apply_all, shard_at, merging, revised, revise, merge_shard, merge_item, World, holds}
+use Rattle.protocol.proofs.Base.{◌≡◌, refl, sym, ap, subst, ◌∙◌, true, false, List, [], ◌++◌, ◌⊎◌, inl, inr, ℕ, suc, ◌<◌, arith, length, All-weaker, get_or_past, nth_getD, cases_eq, Option, Some, None, mapped, nth, none-some}
+use Rattle.protocol.specs.Rules.{Model, Laws, Operation, modify, Merging, SplitItem, Stamp, Transaction, Shape, State, Row, row_at, stamp_at, split_in, is_split, apply_all, shard_at, merging, revised, revise, merge_shard, merge_item, World, holds}
 use Rattle.protocol.proofs.Commuting.{first_done, merge_all}
 use Rattle.protocol.proofs.Frames.{ready_longer, after, moves}
 use Rattle.protocol.proofs.Invariant.{MergedOk, pending, owed, gathered, ShardOk, Kept, Inv}
 use Rattle.protocol.proofs.Past.{past_none}
-use Rattle.protocol.proofs.Places.{some_none, nth_modify, nth_modify_other, length_modify, nth_there}
+use Rattle.protocol.proofs.Places.{nth_modify, nth_modify_other, length_modify, nth_there}
 use Rattle.protocol.proofs.Shards.{values_at}
 use Rattle.protocol.proofs.Splits.{Good, good_item, good_found}
 use Rattle.protocol.proofs.Targets.{writes_unsplit}
@@ -13,7 +13,7 @@ use Rattle.protocol.proofs.Targets.{writes_unsplit}
 -- the version of each record is what it was, or it is the record whose version is revised
 revised_at : (ss : List Stamp) (place i key : ℕ) → let ss' = modify i (revised place) ss in
     ((stamp_at ss' key).version ≡ (stamp_at ss key).version) ⊎ ((key ≡ i) × ((stamp_at ss' key).version ≡ place))
-revised_at ss place i key = grind (arith, nth_getD, nth_past, get_or_past, nth_modify ss i (revised place), nth_modify_other ss i key (revised place), length_modify ss i (revised place))
+revised_at ss place i key = grind (arith, nth_getD, get_or_past, nth_modify, nth_modify_other, length_modify)
 
 -- a record that is held is not split
 holds_unsplit : (ls : List SplitItem) (o : Option Transaction) (key : ℕ) → holds ls o key ≡ true → is_split ls key ≡ false
@@ -40,7 +40,7 @@ module _ {M : Type 0} (k : Model M) (laws : Laws k) (sh : Shape) (start : List M
     good = good_item k sh.keys 0 s.split row.merged l inv.kept.sized.split_good there
 
     split : is_split ls l.key ≡ true
-    split = ap option_is_some (ap (λ p. find_split 0 (split_in p s.split) l.key) phase ∙ good_found k sh.keys s.split row.merged l inv.kept.sized.split_good there)
+    split = grind (arith, good_found)
 
     shard : ShardOk k sh x.table os w row.merged l
     shard = inv.kept.values.shards (λ e. grind arith) w row.merged l inside there
@@ -87,7 +87,7 @@ module _ {M : Type 0} (k : Model M) (laws : Laws k) (sh : Shape) (start : List M
                 absurd (grind arith)
           ];
           past = past_none k sh start x.events s.ticket s.place old.past;
-          hand = λ t e. absurd (some_none t (sym e ∙ empty));
+          hand = λ t e. absurd (none-some t (sym empty ∙ e));
           stash = All-weaker _ _ (ready_longer k sh x.events [] w) row.stash (old.rows w).stash;
           merged = subst (λ p. MergedOk k sh p (length s.split) (merging (suc row.merged) row)) (sym phase) (λ u. empty, λ a. omega (arith, items.1 a));
           values = values_at k sh start x inv w inside row.merged l there split _ (merging (suc row.merged) row) table [] elsewhere

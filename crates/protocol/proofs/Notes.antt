@@ -1,5 +1,5 @@
 -- Noted versions, and the check that finds none of them stale.
-use Rattle.protocol.proofs.Base.{◌≡◌, refl, subst, ◌∙◌, true, false, not, ◌&&◌, ◌||◌, List, [], ◌∷◌, ◌++◌, ◌⊎◌, inl, inr, ℕ, arith, eqb, All-push, cond_both, or_cases, or_left, or_right, eqb-true, eq-eqb, false≢true, tells, Option, Some, None, option_is_some, AllByRecursion}
+use Rattle.protocol.proofs.Base.{◌≡◌, true, false, not, ◌&&◌, ◌||◌, List, [], ◌∷◌, ◌++◌, ◌⊎◌, inl, inr, ℕ, arith, eqb, All-push, or_cases, false≢true, tells, Option, Some, None, option_is_some, AllByRecursion}
 use Rattle.protocol.specs.Rules.{Note, Stamp, stamp_at, owned_by, locked_out, is_noted, note, first_conflict}
 
 -- a record that no other worker has locked is free, or the worker's own
@@ -13,15 +13,12 @@ module _ (ss : List Stamp) (w : ℕ) where
 
   pub no_conflict : (ns : List Note) → first_conflict ss w ns ≡ None → AllByRecursion Current ns
   no_conflict [] h = tt
-  no_conflict (n ∷ ns) h = (grind (arith, tells), no_conflict ns (grind arith))
+  no_conflict (n ∷ ns) h = grind (arith, tells, no_conflict ns)
 
 -- what holds of all notes holds of that on a noted key
 pub noted_has : (P : Note → Type 0) (ns : List Note) (key : ℕ) → AllByRecursion P ns → is_noted ns key ≡ true → (version : ℕ) × P (record { key = key; version = version })
 noted_has P [] key a h = absurd (false≢true h)
-noted_has P (n ∷ ns) key a h = elim (or_cases (eqb n.key key) (is_noted ns key) h) [
-  | inl p ↦ (n.version, subst (λ j. P (record { key = j; version = n.version })) (eqb-true n.key key p) a.0)
-  | inr p ↦ noted_has P ns key a.1 p
-]
+noted_has P (n ∷ ns) key a h = elim (or_cases (eqb n.key key) (is_noted ns key) h) [ inl p ↦ (n.version, grind (arith, tells)) | inr p ↦ noted_has P ns key a.1 p ]
 
 noted_append : (ns : List Note) (n : Note) (key : ℕ) → is_noted (ns ++ (n ∷ [])) key ≡ (is_noted ns key || eqb n.key key)
 noted_append [] n key = grind arith
@@ -30,10 +27,10 @@ noted_append (m ∷ ns) n key = let h = noted_append ns n key in grind arith
 module _ (ns : List Note) (key version : ℕ) where
   -- a note keeps what was noted, and notes its key
   pub note_keeps : (other : ℕ) → is_noted ns other ≡ true → is_noted (note ns key version) other ≡ true
-  note_keeps other h = cond_both (is_noted ns key) ns _ (λ ms. is_noted ms other ≡ true) (λ t. h) (λ t. noted_append ns _ other ∙ or_left (is_noted ns other) (eqb key other) h)
+  note_keeps other h = grind (arith, noted_append)
 
   pub note_notes : is_noted (note ns key version) key ≡ true
-  note_notes = cond_both (is_noted ns key) ns _ (λ ms. is_noted ms key ≡ true) (λ t. t) (λ t. noted_append ns _ key ∙ or_right (is_noted ns key) (eqb key key) (eq-eqb key key refl))
+  note_notes = grind (arith, noted_append)
 
   pub note_all : (P : Note → Type 0) → AllByRecursion P ns → P (record { key = key; version = version }) → AllByRecursion P (note ns key version)
-  note_all P a p = cond_both (is_noted ns key) ns _ (AllByRecursion P) (λ t. a) (λ t. All-push P ns _ a p)
+  note_all P a p = grind (arith, All-push)

@@ -1,43 +1,24 @@
 -- The operations of entries on one key, and what they make of its value.
-use Rattle.protocol.proofs.Base.{◌≡◌, refl, sym, ap, ◌∙◌, Bool, true, false, cond, List, [], ◌∷◌, ◌++◌, append_assoc, ℕ, arith, eqb, length, take, drop, take-append-drop, nth_drop, drop-drop, eqb-true, eqb-false, cond_both, tells, Option, Some, None, option_is_some, mapped, AllByRecursion, nth}
-use Rattle.protocol.specs.Rules.{Model, Operation, Action, Show, Need, Change, Entry, applied, modify, after, SplitItem, verb_of, changes, action_ops, ops_of, ops_on, apply_all, is_split, sharded, next_shard, writes}
+use Rattle.protocol.proofs.Base.{◌≡◌, refl, sym, true, false, cond, List, [], ◌∷◌, ◌++◌, append_assoc, ℕ, arith, eqb, length, take, drop, take-append-drop, nth_drop, drop-drop, Option, Some, None, mapped, AllByRecursion, nth, mapped_id}
+use Rattle.protocol.specs.Rules.{Model, Operation, Action, Entry, applied, after, SplitItem, action_ops, ops_on, apply_all, is_split, sharded, next_shard, writes}
 use Rattle.protocol.proofs.Finding.{found, not_found}
-use Rattle.protocol.proofs.Places.{nth_modify, nth_modify_other, length_modify, mapped_id, mapped_mapped, mapped_same}
+use Rattle.protocol.proofs.Places.{nth_modify, nth_modify_other, length_modify}
 
 module _ (w key : ℕ) where
-  -- what one entry does to the key
-  abbrev pub op_on : Entry → List Operation
-  op_on e = cond (eqb e.key key) (ops_of w e) []
-
   pub ops_on_append : (es fs : List Entry) → ops_on w key (es ++ fs) ≡ ops_on w key es ++ ops_on w key fs
   ops_on_append [] fs = refl
-  ops_on_append (e ∷ es) fs = ap (λ r. op_on e ++ r) (ops_on_append es fs) ∙ sym (append_assoc (op_on e) (ops_on w key es) (ops_on w key fs))
-
-  idle_action : (part : ℕ) (a : Action) → option_is_some (verb_of a) ≡ false → action_ops w part a ≡ []
-  idle_action part a h = grind arith
-
-  -- an entry that changes nothing, or another key
-  pub no_op : (e : Entry) → (changes e ≡ true → e.key ≡ key → ⊥) → op_on e ≡ []
-  no_op e h =
-      cond_both (eqb e.key key) (ops_of w e) [] (λ os. os ≡ [])
-      (λ t. idle_action e.part e.action (grind (arith, tells, h))) (λ t. refl)
+  ops_on_append (e ∷ es) fs = grind (arith, ops_on_append es, append_assoc)
 
   module _ (ls : List SplitItem) where
     -- a key that is not split and that no entry writes has no operation
     pub no_writes : (es : List Entry) → is_split ls key ≡ false → writes ls es key ≡ false → ops_on w key es ≡ []
     no_writes [] s h = refl
-    no_writes (e ∷ es) s h =
-        let a : op_on e ≡ [] = no_op e (λ c d. let t : is_split ls e.key ≡ false = ap (is_split ls) d ∙ s in grind (arith, tells)) in
-        let b = no_writes es s (grind (arith, tells)) in
-        cc
+    no_writes (e ∷ es) s h = grind (arith, no_writes es)
 
     -- entries with no operation on any split key
     no_shards : (es : List Entry) → is_split ls key ≡ true → AllByRecursion (λ e. sharded ls e ≡ false) es → ops_on w key es ≡ []
     no_shards [] s h = refl
-    no_shards (e ∷ es) s h =
-        let a : op_on e ≡ [] = no_op e (λ c d. let t : is_split ls e.key ≡ true = ap (is_split ls) d ∙ s in let u = h.0 in grind (arith, tells)) in
-        let b = no_shards es s h.1 in
-        cc
+    no_shards (e ∷ es) s h = grind (arith, no_shards es s h.1)
 
     -- what is said of the next entry with an operation on a split key, from a number on
     abbrev pub NextShard : List Entry → ℕ → Option ℕ → Type 0
@@ -51,53 +32,31 @@ module _ (w key : ℕ) where
         go None h = no_shards (drop from es) s (not_found (sharded ls) from (drop from es) h)
         go (Some j) h =
             let f = found (sharded ls) from (drop from es) j h in
-            let n = f.number in
-            ap (ops_on w key) (sym (take-append-drop n (drop from es)))
-            ∙ ops_on_append (take n (drop from es)) (drop n (drop from es))
-            ∙ ap (λ os. os ++ ops_on w key (drop n (drop from es))) (no_shards (take n (drop from es)) s f.before)
-            ∙ ap (ops_on w key) (drop-drop n from es ∙ ap (λ m. drop m es) (sym f.counted))
+            let n = no_shards (take f.number (drop from es)) s f.before in
+            grind (arith, ops_on_append, take-append-drop f.number (drop from es), drop-drop f.number from es)
 
 -- the next entry with an operation on a split key is one
 pub next_sharded : (ls : List SplitItem) (es : List Entry) (from j : ℕ) → next_shard ls from es ≡ Some j → (e : Entry) × (nth es j ≡ Some e) × (sharded ls e ≡ true)
-next_sharded ls es from j h =
-    let f = found (sharded ls) from (drop from es) j h in
-    (f.entry, ap (nth es) f.counted ∙ sym (nth_drop from es f.number) ∙ f.there, f.passes)
+next_sharded ls es from j h = let f = found (sharded ls) from (drop from es) j h in (f.entry, grind (arith, nth_drop), f.passes)
 
 module _ {M : Type 0} (k : Model M) where
   pub apply_append : (os ps : List Operation) (x : M) → apply_all k (os ++ ps) x ≡ apply_all k ps (apply_all k os x)
   apply_append [] ps x = refl
   apply_append (o ∷ os) ps x = apply_append os ps ((k.rule o.part o.verb).apply o.argument x)
 
-  -- operations on nothing, and on what others left
-  pub mapped_none : (o : Option M) → mapped (apply_all k []) o ≡ o
-  mapped_none = mapped_id
-
+  -- operations on what others left
   pub mapped_append : (os ps : List Operation) (o : Option M) → mapped (apply_all k ps) (mapped (apply_all k os) o) ≡ mapped (apply_all k (os ++ ps)) o
-  mapped_append os ps o = mapped_mapped (apply_all k os) (apply_all k ps) o ∙ mapped_same _ _ (λ x. sym (apply_append os ps x)) o
+  mapped_append os ps o = grind (arith, apply_append)
 
   module _ (w key : ℕ) where
-    idle_at : (b : Bool) (o : Option M) → o ≡ mapped (apply_all k (cond b [] [])) o
-    idle_at b o = grind (arith, mapped_none o)
-
     after_at : (e : Entry) (a : Action) (vs : List M) → nth (after k w e a vs) key ≡ mapped (apply_all k (cond (eqb e.key key) (action_ops w e.part a) [])) (nth vs key)
-    after_at e (Show n) vs = idle_at (eqb e.key key) (nth vs key)
-    after_at e (Need n b) vs = idle_at (eqb e.key key) (nth vs key)
-    after_at e (Change v n m) vs =
-        let f = (k.rule e.part v).apply (record { number = n; worker = w; mark = m }) in
-        cond_both (eqb e.key key) (action_ops w e.part (Change v n m)) [] (λ os. nth (modify e.key f vs) key ≡ mapped (apply_all k os) (nth vs key))
-        (λ t. let d = eqb-true e.key key t in ap (λ i. nth (modify i f vs) key) d ∙ nth_modify vs key f)
-        (λ t. nth_modify_other vs e.key key f (λ d. eqb-false e.key key t (sym d)) ∙ sym (mapped_none (nth vs key)))
+    after_at e a vs = grind (arith, nth_modify, nth_modify_other)
 
     -- each value has had its own operations
     pub applied_at : (es : List Entry) (vs : List M) → nth (applied k w es vs) key ≡ mapped (apply_all k (ops_on w key es)) (nth vs key)
-    applied_at [] vs = sym (mapped_none (nth vs key))
-    applied_at (e ∷ es) vs =
-        applied_at es (after k w e e.action vs) ∙ ap (mapped (apply_all k (ops_on w key es))) (after_at e e.action vs)
-        ∙ mapped_append (op_on w key e) (ops_on w key es) (nth vs key)
-
-  length_after : (w : ℕ) (e : Entry) (a : Action) (vs : List M) → length (after k w e a vs) ≡ length vs
-  length_after w e a vs = grind (arith, length_modify vs e.key)
+    applied_at [] vs = sym (mapped_id (nth vs key))
+    applied_at (e ∷ es) vs = grind (arith, applied_at es, after_at, mapped_append)
 
   pub length_applied : (w : ℕ) (es : List Entry) (vs : List M) → length (applied k w es vs) ≡ length vs
   length_applied w [] vs = refl
-  length_applied w (e ∷ es) vs = length_applied w es (after k w e e.action vs) ∙ length_after w e e.action vs
+  length_applied w (e ∷ es) vs = grind (arith, length_applied w es, length_modify)

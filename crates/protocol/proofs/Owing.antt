@@ -1,27 +1,23 @@
 -- What is owed to a record: by whom, and what stays owed where a turn changes one row.
-use Rattle.protocol.proofs.Base.{◌≡◌, refl, sym, ap, subst, ◌∙◌, false, List, [], ◌++◌, append-nil, append_assoc, ◌⊎◌, inl, inr, ℕ, zero, suc, ◌≤◌, ◌<◌, arith, cases_eq, cases_Bool, length, Option, Some, AllByRecursion, mapped, nth}
-use Rattle.protocol.specs.Rules.{Model, Operation, SplitItem, Stamp, Transaction, Row, Shape, State, row_at, stamp_at, apply_all, split_in, is_split, shard_at, Event, World, holds}
+use Rattle.protocol.proofs.Base.{◌≡◌, refl, sym, ap, ◌∙◌, false, List, [], ◌++◌, append-nil, append_assoc, ◌⊎◌, inl, inr, ℕ, zero, suc, ◌≤◌, ◌<◌, arith, cases_eq, length, Option, Some, AllByRecursion, mapped, nth, rules}
+use Rattle.protocol.specs.Rules.{Model, Operation, SplitItem, Stamp, Transaction, Row, Shape, State, row_at, stamp_at, apply_all, split_in, is_split, Event, World, holds}
 use Rattle.protocol.proofs.Frames.{after, each_row, moves_row}
 use Rattle.protocol.proofs.Invariant.{Past, Ready, HandOk, MergedOk, pending, owed, gathered, ValuesOk, ideal, Kept, Inv}
 use Rattle.protocol.proofs.Operations.{no_writes}
-use Rattle.protocol.proofs.Past.{ideal_none, past_none}
 
 module _ {M : Type 0} (k : Model M) (sh : Shape) where
   pub gathered_same : (f g : ℕ → List Operation) (n : ℕ) → ((j : ℕ) → j < n → f j ≡ g j) → gathered k sh f n ≡ gathered k sh g n
   gathered_same f g zero same = refl
-  gathered_same f g (suc n) same = λ i. same n (omega arith) i ++ gathered_same f g n (λ j l. same j (omega arith)) i
+  gathered_same f g (suc n) same = grind (arith, gathered_same f g n)
 
   pub gathered_none : (f : ℕ → List Operation) (n : ℕ) → ((j : ℕ) → j < n → f j ≡ []) → gathered k sh f n ≡ []
   gathered_none f zero none = refl
-  gathered_none f (suc n) none = λ i. none n (omega arith) i ++ gathered_none f n (λ j l. none j (omega arith)) i
+  gathered_none f (suc n) none = grind (arith, gathered_none f n)
 
   -- where the others have nothing
   pub gathered_one : (f : ℕ → List Operation) (n w : ℕ) → w < n → ((j : ℕ) → j < n → (j ≡ w → ⊥) → f j ≡ []) → gathered k sh f n ≡ f w
   gathered_one f zero w h none = absurd (omega arith)
-  gathered_one f (suc n) w h none = elim (cases_eq w n) [
-    | inl e ↦ let z = gathered_none f n (λ j l. none j (omega arith) (λ (d : j ≡ w). omega arith)) in rw (z, append-nil, e) refl
-    | inr e ↦ let z = none n (omega arith) (λ d. e (sym d)) in rw z (gathered_one f n w (omega arith) (λ j l. none j (omega arith)))
-  ]
+  gathered_one f (suc n) w h none = grind (arith, gathered_none f n, gathered_one f n w, append-nil)
 
   -- what two that differ at one worker have before and behind it
   pub record Around (f g : ℕ → List Operation) (n w : ℕ) : Type 0 where
@@ -33,13 +29,10 @@ module _ {M : Type 0} (k : Model M) (sh : Shape) where
   pub gathered_at : (f g : ℕ → List Operation) (n w : ℕ) → w < n → ((j : ℕ) → j < n → (j ≡ w → ⊥) → f j ≡ g j) → Around f g n w
   gathered_at f g zero w h same = absurd (omega arith)
   gathered_at f g (suc n) w h same = elim (cases_eq w n) [
-    | inl e ↦
-        let r = gathered_same f g n (λ j l. same j (omega arith) (λ (d : j ≡ w). omega arith)) in
-        record { before = []; behind = gathered k sh f n; first = rw e refl; second = rw (e, r) refl }
+    | inl e ↦ record { before = []; behind = gathered k sh f n; first = grind arith; second = grind (arith, gathered_same f g n) }
     | inr e ↦
-        let s = same n (omega arith) (λ d. e (sym d)) in
         let r = gathered_at f g n w (omega arith) (λ j l d. same j (omega arith) d) in
-        record { before = f n ++ r.before; behind = r.behind; first = rw r.first (sym (append_assoc (f n) r.before _)); second = rw (r.second, ← s) (sym (append_assoc (f n) r.before _)) }
+        record { before = f n ++ r.before; behind = r.behind; first = grind (arith, append_assoc); second = grind (arith, append_assoc, same n) }
   ]
 
   -- on a record that is not split only who holds it owes something
@@ -58,13 +51,7 @@ module _ {M : Type 0} (k : Model M) (sh : Shape) (start : List M) (x : World M) 
 
   -- what a worker owes to a record that is not split, and that it has not locked
   pub unlocked_owes : (key w : ℕ) → key < sh.keys → w < sh.workers → is_split ls key ≡ false → ((stamp_at s.stamps key).owner ≡ Some w → ⊥) → owed k sh s ops key w ≡ []
-  unlocked_owes key w l v free not_own =
-      let a = inv.kept.values.unsplit w key v free in
-      let locks = (inv.sound.locks key w (omega (arith, inv.kept.sized.stamps_len))).1 in
-      elim (cases_Bool (holds ls (row_at s.rows w).current key)) [
-        | inl h ↦ absurd (not_own (locks h))
-        | inr h ↦ let b = held_pending k sh ls w key (row_at s.rows w).current free h in cc
-      ]
+  unlocked_owes key w l v free not_own = grind (arith, held_pending)
 
   module _ (w ticket place : ℕ) (ss : List Stamp) (r : Row) (new : List Event) (inside : w < sh.workers) where
     abbrev x' : World M
@@ -83,17 +70,15 @@ module _ {M : Type 0} (k : Model M) (sh : Shape) (start : List M) (x : World M) 
         record {
           ops = v.ops;
           unsplit = v.unsplit;
-          shards = λ p j i l a b. let h = v.shards p j i l a b in record { base = h.base; holds = kept (shard_at sh.keys j i) (omega arith) ∙ h.holds; fit = h.fit };
-          merged = λ p j i l a b c. v.merged p j i l a b (subst (λ n. i < n) (merges j) c);
+          shards = λ p j i l a b. let h = v.shards p j i l a b in grind (arith, kept);
+          merged = λ p j i l a b c. v.merged p j i l a b (omega (arith, merges j));
           values = values;
         }
 
     -- what each worker owes then, if the shards of the others hold what they held
     pub owes_then : (held : ℕ → ℕ → List Operation) (key : ℕ) → ((j : ℕ) → (j ≡ w → ⊥) → held j key ≡ ops j key) → (j : ℕ)
         → ((j ≡ w) × (owed k sh x'.state held key j ≡ held w key ++ pending k sh ls w key r.current)) ⊎ ((j ≡ w → ⊥) × (owed k sh s ops key j ≡ owed k sh x'.state held key j))
-    owes_then held key same = each
-        (λ j (q : Row). ((j ≡ w) × (held j key ++ pending k sh ls j key q.current ≡ held w key ++ pending k sh ls w key r.current)) ⊎ ((j ≡ w → ⊥) × (owed k sh s ops key j ≡ held j key ++ pending k sh ls j key q.current)))
-        (inl (refl, refl)) (λ j d. inr (d, ap (λ os. os ++ pending k sh ls j key (row_at s.rows j).current) (sym (same j d))))
+    owes_then held key same j = search rules
 
     -- where the worker owes what it owed, so do all
     pub owes_still : (key : ℕ) → pending k sh ls w key r.current ≡ pending k sh ls w key (row_at s.rows w).current
@@ -112,4 +97,4 @@ module _ {M : Type 0} (k : Model M) (sh : Shape) (start : List M) (x : World M) 
   pub stays_owing : (w : ℕ) (ss : List Stamp) (r : Row) (inside : w < sh.workers) → length ss ≡ length s.stamps → ((key : ℕ) → (stamp_at ss key).version ≡ (stamp_at s.stamps key).version)
       → ((t : Transaction) → r.current ≡ Some t → HandOk k sh ls ss x.table (x.events ++ []) w t) → AllByRecursion (Ready k sh (x.events ++ []) w) r.stash → MergedOk k sh s.phase (length s.split) r
       → r.merged ≡ (row_at s.rows w).merged → ((key : ℕ) → pending k sh ls w key r.current ≡ pending k sh ls w key (row_at s.rows w).current) → Kept k sh start (after k sh start x w s.ticket s.place ss r x.table [])
-  stays_owing w ss r inside len versions = keeps_owing w s.ticket s.place ss r [] inside len versions (omega arith) (past_none k sh start x.events s.ticket s.place inv.kept.past) (ideal_none k sh start x.events)
+  stays_owing w ss r inside len versions h g a b e = search (rules, keeps_owing)

@@ -1,85 +1,71 @@
 -- What happened, with one event more, and the order of what happened.
-use Rattle.protocol.proofs.Base.{◌≡◌, refl, sym, ap, subst, ◌∙◌, List, [], ◌∷◌, ◌++◌, append-nil, map, inl, inr, ℕ, zero, suc, ◌+◌, ◌≤◌, ◌<◌, arith, add-one, length, take, map-id, map_push, length_push, length_counting, get_or-range_with_len, map_counting_more, nth_getD, sum_by-append, none-some, same_Some, nth_within, nth_map, Option, Some, Ok, counting, mapped, sum_by, nth}
-use Rattle.protocol.specs.Rules.{Model, ReadAs, Transaction, Shape, Taking, Placing, Event, Taken, Placed, taking_in, placing_in, or_skip, those, takings, placings, alone, values_by, readings_by, SameSlip, readings_of}
+use Rattle.protocol.proofs.Base.{◌≡◌, refl, sym, ap, subst, ◌∙◌, List, [], ◌∷◌, ◌++◌, append-nil, map, inl, inr, ℕ, zero, suc, ◌+◌, ◌≤◌, ◌<◌, arith, length, take, map-id, map_push, length_push, length_counting, get_or-range_with_len, map_counting_more, sum_by-append, none-some, nth_within, nth_map, Option, Some, Ok, counting, sum_by, nth, gets}
+use Rattle.protocol.specs.Rules.{Model, ReadAs, Transaction, Shape, Taking, Placing, Event, Taken, Placed, taking_in, placing_in, those, takings, placings, alone, values_by, readings_by, SameSlip, readings_of}
 use Rattle.protocol.proofs.Invariant.{Live, HasPlace, Past, ideal}
 use Rattle.protocol.proofs.Places.{nth_push, nth_longer}
 
 module _ {A : Type 0} (f : Event → Option A) where
-  skip_append : (o : Option A) (xs ys : List A) → or_skip o (xs ++ ys) ≡ or_skip o xs ++ ys
-  skip_append o xs ys = grind arith
-
   pub those_append : (es ds : List Event) → those f (es ++ ds) ≡ those f es ++ those f ds
   those_append [] ds = refl
-  those_append (e ∷ es) ds = ap (or_skip (f e)) (those_append es ds) ∙ skip_append (f e) (those f es) (those f ds)
+  those_append (e ∷ es) ds = grind (arith, those_append es)
 
   pub weight_append : (g : A → ℕ) (es ds : List Event) → sum_by g (those f (es ++ ds)) ≡ sum_by g (those f es) + sum_by g (those f ds)
-  weight_append g es ds = ap (sum_by g) (those_append es ds) ∙ sum_by-append g (those f es) (those f ds)
+  weight_append g es ds = grind (arith, those_append, sum_by-append)
 
   -- how many are found before event i
   abbrev pub before : List Event → ℕ → ℕ
   before es i = length (those f (take i es))
 
-  nth_skip : (o : Option A) (a : A) (xs ys : List A) → nth xs (length ys) ≡ Some a → nth (or_skip o xs) (length (or_skip o ys)) ≡ Some a
-  nth_skip o a xs ys h = grind arith
-
   found_at : (es : List Event) (i : ℕ) (e : Event) (a : A) → nth es i ≡ Some e → f e ≡ Some a → nth (those f es) (before es i) ≡ Some a
   found_at [] i e a h g = absurd (none-some e h)
-  found_at (d ∷ es) zero e a h g = ap (λ (o : Option A). nth (or_skip o (those f es)) 0) (ap f (same_Some d e h) ∙ g)
-  found_at (d ∷ es) (suc i) e a h g = nth_skip (f d) a (those f es) (those f (take i es)) (found_at es i e a h g)
-
-  skip_less : (o : Option A) (xs ys : List A) → length xs < length ys → length (or_skip o xs) < length (or_skip o ys)
-  skip_less o xs ys h = grind arith
+  found_at (d ∷ es) zero e a h g = grind arith
+  found_at (d ∷ es) (suc i) e a h g = grind (arith, found_at es i e a h g)
 
   -- what is found in a later event comes later
   pub before_later : (es : List Event) (h j : ℕ) (e : Event) (a : A) → h < j → nth es h ≡ Some e → f e ≡ Some a → before es h < before es j
   before_later [] h j e a l q g = absurd (none-some e q)
   before_later (d ∷ es) h zero e a l q g = absurd (omega arith)
-  before_later (d ∷ es) zero (suc j) e a l q g = omega (arith, ap (λ (o : Option A). length (or_skip o (those f (take j es)))) (ap f (same_Some d e q) ∙ g))
-  before_later (d ∷ es) (suc h) (suc j) e a l q g = skip_less (f d) (those f (take h es)) (those f (take j es)) (before_later es h j e a (omega arith) q g)
+  before_later (d ∷ es) zero (suc j) e a l q g = grind arith
+  before_later (d ∷ es) (suc h) (suc j) e a l q g = grind (arith, before_later es h j e a)
 
   -- where the numbers of what is found count up, each is known by how many come before it
   pub counted_at : (g : A → ℕ) (first n : ℕ) (es : List Event) (i : ℕ) (e : Event) (a : A) → map g (those f es) ≡ counting first n → nth es i ≡ Some e → f e ≡ Some a
       → (g a ≡ first + before es i) × (before es i < n)
-  counted_at g first n es i e a c h q =
-      let m = before es i in
-      let there : nth (counting first n) m ≡ Some (g a) = ap (λ ns. nth ns m) (sym c) ∙ nth_map g (those f es) m ∙ ap (mapped g) (found_at es i e a h q) in
-      let low : m < n = omega (arith, nth_within (counting first n) m (g a) there, length_counting first n) in
-      (same_Some (g a) (first + m) (sym there ∙ nth_getD (counting first n) m 0 (omega (arith, length_counting first n)) ∙ ap Some (get_or-range_with_len first n m 0 low)), low)
+  counted_at g first n es i e a c h q = let r = found_at es i e a h q in let m = nth_map g (those f es) (before es i) in grind (arith, gets, length_counting, get_or-range_with_len)
 
 -- one number more
 counting_more : (first n : ℕ) → counting first (suc n) ≡ counting first n ++ (first + n) ∷ []
-counting_more first n = sym (map-id (counting first (suc n))) ∙ ap (λ m. map (λ (x : ℕ). x) (counting first m)) (sym (add-one n)) ∙ map_counting_more (λ x. x) first n (first + n) refl ∙ ap (λ ms. ms ++ (first + n) ∷ []) (map-id (counting first n))
+counting_more first n = grind (arith, map_counting_more (λ x. x) first n (first + n) refl, map-id)
 
 -- a list that counts up, with one more
 counted : {A : Type 0} (f : A → ℕ) (first : ℕ) (xs : List A) (x : A) → map f xs ≡ counting first (length xs) → f x ≡ first + length xs → map f (xs ++ x ∷ []) ≡ counting first (length (xs ++ x ∷ []))
-counted f first xs x h e =
-    map_push f xs x ∙ (λ i. h i ++ e i ∷ []) ∙ sym (counting_more first (length xs)) ∙ ap (counting first) (sym (length_push xs x ∙ add-one (length xs)))
+counted f first xs x h e = grind (arith, map_push, counting_more, length_push)
 
 module _ {M : Type 0} (k : Model M) where
   values_append : (ps qs : List Placing) (vs : List M) → values_by k (ps ++ qs) vs ≡ values_by k qs (values_by k ps vs)
   values_append [] qs vs = refl
-  values_append (p ∷ ps) qs vs = values_append ps qs (alone k p vs).values
+  values_append (p ∷ ps) qs vs = grind (arith, values_append ps)
 
   readings_append : (ps qs : List Placing) (vs : List M) → readings_by k (ps ++ qs) vs ≡ readings_by k ps vs ++ readings_by k qs (values_by k ps vs)
   readings_append [] qs vs = refl
-  readings_append (p ∷ ps) qs vs = ap (λ rs. record { answers = (alone k p vs).answers; skipped = (alone k p vs).skipped } ∷ rs) (readings_append ps qs (alone k p vs).values)
+  readings_append (p ∷ ps) qs vs = grind (arith, readings_append ps)
 
   module _ (sh : Shape) (start : List M) (es : List Event) where
     pub ideal_taken : (t : Taking) → ideal k sh start (es ++ (Taken t ∷ [])) ≡ ideal k sh start es
-    ideal_taken t = ap (λ ps. values_by k ps (take sh.keys start)) (those_append placing_in es (Taken t ∷ []) ∙ append-nil (placings es))
+    ideal_taken t = grind (arith, those_append, append-nil)
 
     pub ideal_none : ideal k sh start (es ++ []) ≡ ideal k sh start es
     ideal_none = ap (ideal k sh start) (append-nil es)
 
     pub ideal_placed : (p : Placing) → ideal k sh start (es ++ (Placed p ∷ [])) ≡ (alone k p (ideal k sh start es)).values
-    ideal_placed p = ap (λ ps. values_by k ps (take sh.keys start)) (those_append placing_in es (Placed p ∷ [])) ∙ values_append (placings es) (p ∷ []) (take sh.keys start)
+    ideal_placed p = grind (arith, those_append, values_append)
 
     module _ (ticket place : ℕ) (past : Past k sh start es ticket place) where
       pub past_none : Past k sh start (es ++ []) ticket place
       past_none = subst (λ fs. Past k sh start fs ticket place) (sym (append-nil es)) past
 
       taken_longer : (new : List Event) (i : ℕ) (p : Placing) → nth es i ≡ Some (Placed p) → (j : ℕ) × (u : Taking) × (j < i) × (nth (es ++ new) j ≡ Some (Taken u)) × SameSlip u p
-      taken_longer new i p h = let r = past.as_taken i p h in (r.0, r.1, r.2, nth_longer es new r.0 (Taken r.1) r.3, r.4)
+      taken_longer new i p h = grind (arith, nth_longer)
 
       -- a taking under the next ticket
       pub past_taken : (t : Taking) → t.ticket ≡ suc ticket → ReadAs t.text (Ok t.entries) → Past k sh start (es ++ (Taken t ∷ [])) (suc ticket) place

@@ -1,21 +1,18 @@
 -- Turns that change the phase, and the opening.
-use Rattle.protocol.proofs.Base.{◌≡◌, refl, sym, ap, subst, ◌∙◌, Bool, true, false, not, List, [], ◌∷◌, ◌++◌, map, ◌⊎◌, inl, inr, ℕ, zero, suc, ◌+◌, ◌*◌, ◌≤◌, ◌<◌, arith, eqb, length, get_or, replicate, length-replicate, none-some, nth_within, All-weaker, cases_Bool, eqb-true, leb-true, false≢true, tells, Some, None, mapped, nth}
+use Rattle.protocol.proofs.Base.{◌≡◌, refl, sym, ap, ◌∙◌, Bool, true, false, not, List, [], ◌∷◌, ◌++◌, map, ◌⊎◌, inl, inr, ℕ, ◌+◌, ◌*◌, ◌≤◌, ◌<◌, arith, eqb, length, get_or, replicate, length-replicate, none-some, nth_within, All-weaker, eqb-true, leb-true, false≢true, tells, Some, None, mapped, nth, common_steps, get_or-replicate, get_or_past, mapped_id}
 use Rattle.protocol.specs.Rules.{Model, Operation, Phase, Joined, Closing, Split, Merging, SplitItem, Stamp, when, first_of, good_figures, Transaction, Shape, State, Row, idle, row_at, apply_all, split_in, is_split, shard_at, all_acknowledged, acknowledging, merging, next_phase, good_from, good_split, fresh_all, opened, refuse_open, World, may_rest}
 use Rattle.protocol.proofs.Frames.{ready_longer, hand_grows}
 use Rattle.protocol.proofs.Invariant.{MergedOk, RowOk, pending, owed, ShardOk, Kept, Inv}
-use Rattle.protocol.proofs.Operations.{mapped_none}
 use Rattle.protocol.proofs.Owing.{gathered_same, gathered_none}
 use Rattle.protocol.proofs.Past.{past_none, ideal_none}
-use Rattle.protocol.proofs.Places.{some_none, nth_take, nth_there, nth_modify_other, length_modify}
-use Rattle.protocol.proofs.Shards.{fresh_keeps, fresh_shard, split_item}
+use Rattle.protocol.proofs.Places.{nth_take, nth_there, nth_modify_other, length_modify}
+use Rattle.protocol.proofs.Shards.{fresh_keeps, fresh_shard}
 use Rattle.protocol.proofs.Soundness.{row_map, each_done, all_empty}
 use Rattle.protocol.proofs.Splits.{split_found, found_at}
 
 -- what holds of each of many that are the same, and of what is past them
 each_same : {A : Type 0} (P : A → Type 0) (n i : ℕ) (a d : A) → P a → P d → P (get_or (replicate n a) i d)
-each_same P zero i a d p q = q
-each_same P (suc n) zero a d p q = p
-each_same P (suc n) (suc i) a d p q = each_same P n i a d p q
+each_same P n i a d p q = grind (arith, common_steps, get_or-replicate, get_or_past)
 
 -- no test of the opening found anything
 fine_figures : (a b : Bool) → first_of (when (not a) (1 ∷ []) ∷ when (not b) (2 ∷ []) ∷ []) ≡ None → (a ≡ true) × (b ≡ true)
@@ -53,7 +50,7 @@ module _ {M : Type 0} (k : Model M) (sh : Shape) (start : List M) where
           unsplit = λ w key u h. refl;
           shards = λ h. absurd (h refl);
           merged = λ h. absurd (grind arith);
-          values = λ key u. nth_take start sh.keys key u ∙ sym (mapped_none k (nth start key)) ∙ ap (λ os. mapped (apply_all k os) (nth start key)) (sym (gathered_none k sh _ sh.workers
+          values = λ key u. nth_take start sh.keys key u ∙ sym (mapped_id (nth start key)) ∙ ap (λ os. mapped (apply_all k os) (nth start key)) (sym (gathered_none k sh _ sh.workers
               (λ j v. each_same (λ (r : Row). pending k sh [] j key r.current ≡ []) sh.workers j idle idle refl refl)));
         };
       }
@@ -115,7 +112,7 @@ module _ {M : Type 0} (k : Model M) (sh : Shape) (start : List M) where
 
     -- what is known of a row's merged shards in a phase
     merged_in : (p : Phase) → s.phase ≡ p → (w : ℕ) → MergedOk k sh p (length s.split) (row_at s.rows w)
-    merged_in p phase w = subst (λ q. MergedOk k sh q (length s.split) (row_at s.rows w)) phase (inv.kept.rows w).merged
+    merged_in p phase w = grind arith
 
     pub splits_ok : (ls : List SplitItem) → s.phase ≡ Joined → good_split k sh.keys ls ≡ true → To Closing ls (map (merging 0) s.rows) (fresh_all k sh.keys sh.workers ls x.table)
     splits_ok ls phase good =
@@ -152,7 +149,7 @@ module _ {M : Type 0} (k : Model M) (sh : Shape) (start : List M) where
       good = (inv.kept.sized.split_good, inv.kept.sized.split_few, refl);
       records = λ key u. refl;
       keeps = λ w. rw (row_map (acknowledging false) refl s.rows w) (refl, refl);
-      hands = λ w t e. absurd (some_none t (sym e ∙ all_empty sh s inv.sound done w));
+      hands = λ w t e. absurd (none-some t (sym (all_empty sh s inv.sound done w) ∙ e));
       merged = λ w. elim either [
         | inl e ↦ rw e (ap (λ (r : Row). r.merged) (row_map (acknowledging false) refl s.rows w) ∙ merged_in Closing (phase ∙ e) w, λ h. absurd (grind arith))
         | inr e ↦ rw e (tt, λ h. absurd (grind arith))
@@ -163,13 +160,4 @@ module _ {M : Type 0} (k : Model M) (sh : Shape) (start : List M) where
       where
         -- a key that is split has been merged by all
         none : (w key : ℕ) → w < sh.workers → ops w key ≡ []
-        none w key u = elim (cases_Bool (is_split split key)) [
-          | inl h ↦
-              let f = split_found split key h in
-              let a = found_at split key f.0 f.1 f.2 in
-              let i = split_item s.phase s.split f.0 f.1 a.0 in
-              let g : s.phase ≡ Merging = grind arith in
-              let m = (merged_in Merging g w).1 (each_done s.rows w done (omega (arith, inv.sound.rows))) in
-              rw (← a.1) (inv.kept.values.merged g w f.0 f.1 u i.0 (omega (arith, nth_within s.split f.0 f.1 i.0)))
-          | inr h ↦ inv.kept.values.unsplit w key u h
-        ]
+        none w key u = grind (arith, split_found, found_at, each_done, nth_within)

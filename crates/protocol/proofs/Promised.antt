@@ -1,23 +1,14 @@
 -- The promise, from what holds of every world that turns lead to.
-use Rattle.protocol.proofs.Base.{◌≡◌, refl, sym, ap, subst, ◌∙◌, Bool, true, cond, not, List, [], ◌∷◌, map, inl, inr, ℕ, zero, suc, ◌+◌, ◌≤◌, ◌<◌, arith, eqb, ℤ, length, take, length-take, none-some, sum_by-cons, get_or-le-sum_by, cases_order, and_parts, eqb-true, eq-eqb, not-true, false≢true, tells, Option, Some, None, Result, Ok, Err, counting, option_is_some, mapped, sum_by, nth}
-use Rattle.protocol.specs.Rules.{Model, Laws, Entry, ran as alone_ran, Outcome, Committed, Conflict, TurnedAway, Phase, Joined, Stage, Running, Locking, Checking, Writing, Sharding, Ended, Stamp, outcome_code, first_of, Transaction, Shape, State, idle, row_at, stamp_at, end_of, place_in, place_of, apply_all, split_in, is_split, Call, Take, Collect, Gave, Taking, Placing, Event, Taken, Placed, outcome_of, has_ended, answers_of, outcome_told, quiet, refuse_open, tests, turn_by, turn, taking_in, placing_in, placings, takings, World, alone, values_by, times_placed, RightlyTold, Kept, Promise, in_row, in_hand}
+use Rattle.protocol.proofs.Base.{◌≡◌, refl, sym, ap, ◌∙◌, Bool, true, cond, List, [], ◌∷◌, inl, inr, ℕ, zero, suc, ◌+◌, ◌≤◌, ◌<◌, arith, eqb, ℤ, length, take, length-take, none-some, sum_by-cons, get_or-le-sum_by, cases_order, eq-eqb, tells, Option, Some, None, counting, option_is_some, sum_by, nth, rules, folded_map, same_lists, gets}
+use Rattle.protocol.specs.Rules.{Model, Laws, Outcome, Committed, Conflict, TurnedAway, Phase, Joined, Ended, Stamp, outcome_code, Transaction, Shape, State, idle, row_at, stamp_at, place_in, place_of, split_in, is_split, Collect, Gave, Taking, Placing, Event, Taken, Placed, quiet, refuse_open, turn, taking_in, placing_in, placings, takings, World, values_by, times_placed, RightlyTold, Kept, Promise, in_row, in_hand}
 use Rattle.serial.proofs.Alone.{runs_alone}
-use Rattle.protocol.proofs.Allowed.{none_is, allowed}
 use Rattle.protocol.proofs.Invariant.{taken_weight, Past, owed, ideal, Inv}
-use Rattle.protocol.proofs.Operations.{length_applied, mapped_none}
+use Rattle.protocol.proofs.Operations.{length_applied}
 use Rattle.protocol.proofs.Owing.{gathered_none, unlocked_owes}
 use Rattle.protocol.proofs.Past.{before_later, counted_at}
 use Rattle.protocol.proofs.Phases.{opens_ok}
-use Rattle.protocol.proofs.Places.{nth_take, same_by_nth}
+use Rattle.protocol.proofs.Places.{nth_take}
 use Rattle.protocol.proofs.Turning.{unchanged, run_inv}
-
-ended : (g : Stage) → option_is_some (end_of g) ≡ true → (o : Outcome) × (g ≡ Ended o)
-ended Running h = absurd (false≢true h)
-ended (Locking c) h = absurd (false≢true h)
-ended Checking h = absurd (false≢true h)
-ended (Writing p c) h = absurd (false≢true h)
-ended (Sharding p i) h = absurd (false≢true h)
-ended (Ended o) h = (o, refl)
 
 -- ---- in time
 
@@ -47,10 +38,6 @@ module _ {M : Type 0} (k : Model M) (sh : Shape) (start : List M) (es : List Eve
 abbrev one : ℕ → ℕ → ℕ
 one n m = cond (eqb m n) 1 0
 
-mapped_weight : (f : ℕ → ℕ) (ts : List Taking) → sum_by (λ (t : Taking). f t.ticket) ts ≡ sum_by f (map (λ (t : Taking). t.ticket) ts)
-mapped_weight f [] = refl
-mapped_weight f (t ∷ ts) = sum_by-cons _ t ts ∙ ap (λ m. f t.ticket + m) (mapped_weight f ts) ∙ sym (sum_by-cons f t.ticket (map (λ (u : Taking). u.ticket) ts))
-
 counts_once : (n first m : ℕ) → (sum_by (one n) (counting first m) ≤ 1) × (n < first → sum_by (one n) (counting first m) ≡ 0)
 counts_once n first zero = (omega arith, λ _. refl)
 counts_once n first (suc m) =
@@ -62,25 +49,24 @@ counts_once n first (suc m) =
 
 quiet_free : (ss : List Stamp) (key : ℕ) → quiet ss ≡ true → (stamp_at ss key).owner ≡ None
 quiet_free [] key h = refl
-quiet_free (st ∷ ss) zero h = none_is st.owner (not-true _ (and_parts _ _ h).0)
-quiet_free (st ∷ ss) (suc key) h = quiet_free ss key (and_parts (not (option_is_some st.owner)) (quiet ss) h).1
+quiet_free (st ∷ ss) zero h = grind arith
+quiet_free (st ∷ ss) (suc key) h = quiet_free ss key (grind arith)
 
 module _ {M : Type 0} (k : Model M) where
   length_by : (ps : List Placing) (vs : List M) → length (values_by k ps vs) ≡ length vs
   length_by [] vs = refl
-  length_by (p ∷ ps) vs =
-      length_by ps (alone k p vs).values ∙ ap length (runs_alone k p.worker p.entries vs).values ∙ length_applied k p.worker (alone_ran (alone k p vs).skipped p.entries) vs
+  length_by (p ∷ ps) vs = grind (arith, length_by ps, runs_alone k p.worker p.entries vs, length_applied)
 
   module _ (sh : Shape) (start : List M) (fine : refuse_open k sh start ≡ None) (x : World M) (inv : Inv k sh start x) where
     abbrev s : State
     s = x.state
 
     same_values : s.phase ≡ Joined → quiet s.stamps ≡ true → take sh.keys x.table ≡ ideal k sh start x.events
-    same_values joined free = same_by_nth (take sh.keys x.table) (ideal k sh start x.events) (omega (arith, long, length_by (placings x.events) (take sh.keys start), from)) (λ key l.
+    same_values joined free = same_lists (take sh.keys x.table) (ideal k sh start x.events) (omega (arith, long, length_by (placings x.events) (take sh.keys start), from)) (λ key d l.
         let low : key < sh.keys = omega (arith, long) in
         let none = gathered_none k sh (owed k sh s inv.kept.values.ops key) sh.workers (λ w v.
         unlocked_owes k sh start x inv key w low v (ap (λ (p : Phase). is_split (split_in p s.split) key) joined) (λ e. none-some w (sym (quiet_free s.stamps key free) ∙ e))) in
-        nth_take x.table sh.keys key low ∙ sym (inv.kept.values.values key low ∙ ap (λ os. mapped (apply_all k os) (nth x.table key)) none ∙ mapped_none k (nth x.table key)))
+        grind (arith, gets, nth_take, inv.kept.values.values key low))
       where
         long : length (take sh.keys x.table) ≡ sh.keys
         long = omega (arith, length-take sh.keys x.table, inv.kept.sized.table_len)
@@ -89,7 +75,7 @@ module _ {M : Type 0} (k : Model M) where
         from = omega (arith, length-take sh.keys start, (opens_ok k sh start fine).sized.table_len)
 
     weighs_one : (n : ℕ) → taken_weight (one n) x.events ≤ 1
-    weighs_one n = omega (arith, mapped_weight (one n) (takings x.events), ap (sum_by (one n)) inv.kept.past.each_ticket, (counts_once n sh.first (length (takings x.events))).0)
+    weighs_one n = omega (arith, folded_map (λ (t : Taking). t.ticket) (λ m y. m + one n y) 0 (takings x.events), ap (sum_by (one n)) inv.kept.past.each_ticket, (counts_once n sh.first (length (takings x.events))).0)
 
     -- ---- what collecting tells
 
@@ -111,69 +97,15 @@ module _ {M : Type 0} (k : Model M) where
     told w n t l held is TurnedAway g = (unplaced w n t l held is (ap place_of g), refl)
 
     as_collected : (lent : List M) (w n : ℕ) (buffer : List ℤ) (c : List ℕ) (zs : List ℤ) → (turn k sh s lent (Collect w n buffer)).answer ≡ Gave c zs → (o : Outcome) × (c ≡ outcome_code o) × RightlyTold x.events n zs o
-    as_collected lent w n buffer c zs = go (first_of (tests k sh s lent (Collect w n buffer))) refl
-      where
-        ends : (t : Transaction) → (row_at s.rows w).current ≡ Some t → w < sh.workers → t.ticket ≡ n → (o : Outcome) → t.stage ≡ Ended o
-            → Gave (outcome_code o) (cond (option_is_some (place_in o)) t.answers []) ≡ Gave c zs → (o : Outcome) × (c ≡ outcome_code o) × RightlyTold x.events n zs o
-        ends t held l is o g e =
-            let code : outcome_code o ≡ c = cc in
-            let answers : cond (option_is_some (place_in o)) t.answers [] ≡ zs = cc in
-            (o, sym code, subst (λ ys. RightlyTold x.events n ys o) answers (told w n t l held is o g))
-
-        hands : (h : Option Transaction) → (row_at s.rows w).current ≡ h → w < sh.workers → has_ended n h ≡ true → Gave (outcome_told (outcome_of h)) (answers_of h) ≡ Gave c zs
-            → (o : Outcome) × (c ≡ outcome_code o) × RightlyTold x.events n zs o
-        hands None held l b e = absurd (false≢true b)
-        hands (Some t) held l b e =
-            let a = and_parts (eqb t.ticket n) _ b in
-            let o = ended t.stage a.1 in
-            ends t held l (eqb-true t.ticket n a.0) o.0 o.1 (subst (λ (g : Stage). Gave (outcome_told (end_of g)) (cond (option_is_some (place_of g)) t.answers []) ≡ Gave c zs) o.1 e)
-
-        go : (o : Option (List ℕ)) → first_of (tests k sh s lent (Collect w n buffer)) ≡ o → (turn_by k sh s lent (Collect w n buffer) o).answer ≡ Gave c zs → (o : Outcome) × (c ≡ outcome_code o) × RightlyTold x.events n zs o
-        go (Some d) h e = absurd (cc)
-        go None h e = let a = allowed k sh s lent (Collect w n buffer) h in hands (row_at s.rows w).current refl a.0 a.1 e
+    as_collected lent w n buffer c zs h = grind (arith, told)
 
     pub kept : Kept k sh start x
-    kept = record {
-      serializable = record {
-        each_place = inv.kept.past.each_place;
-        as_taken = inv.kept.past.as_taken;
-        as_read = inv.kept.past.as_read;
-        same_readings = inv.kept.past.same_readings;
-        same_values = same_values;
-        in_time = in_time k sh start x.events s.ticket s.place inv.kept.past;
-      };
-      truthful = record { each_ticket = inv.kept.past.each_ticket; placed_once = times_one; as_collected = as_collected };
-      in_bounds = record {
-        places = omega (arith, inv.sound.counted);
-        tickets = inv.sound.low;
-        versions = λ key. omega (arith, inv.kept.sized.versions key, inv.sound.counted, inv.sound.low);
-      };
-    }
-
--- ---- takings
-
-module _ {M : Type 0} (k : Model M) (sh : Shape) (s : State) (lent : List M) where
-  of_takings : (w : ℕ) (text : List ℕ) (q : Result (List Entry) (List ℕ)) (c : List ℕ) (zs : List ℤ) → (turn k sh s lent (Take w text q)).answer ≡ Gave c zs
-      → (n : ℕ) × (es : List Entry) × (c ≡ n ∷ []) × (q ≡ Ok es) × ((turn k sh s lent (Take w text q)).events ≡ Taken (record { ticket = n; worker = w; text = text; entries = es }) ∷ [])
-  of_takings w text q c zs = go (first_of (tests k sh s lent (Take w text q))) q
-    where
-      go : (o : Option (List ℕ)) (p : Result (List Entry) (List ℕ)) → (turn_by k sh s lent (Take w text p) o).answer ≡ Gave c zs
-          → (n : ℕ) × (es : List Entry) × (c ≡ n ∷ []) × (p ≡ Ok es) × ((turn_by k sh s lent (Take w text p) o).events ≡ Taken (record { ticket = n; worker = w; text = text; entries = es }) ∷ [])
-      go (Some d) p h = absurd (cc)
-      go None (Err d) h = absurd (cc)
-      go None (Ok es) h = let e : suc s.ticket ∷ [] ≡ c = cc in (suc s.ticket, es, sym e, refl, refl)
-
-  of_others : (c : Call) (t : Taking) (i : ℕ) → nth (turn k sh s lent c).events i ≡ Some (Taken t) → c ≡ Take t.worker t.text (Ok t.entries)
-  of_others c t = go (first_of (tests k sh s lent c))
-    where
-      go : (o : Option (List ℕ)) (i : ℕ) → nth (turn_by k sh s lent c o).events i ≡ Some (Taken t) → c ≡ Take t.worker t.text (Ok t.entries)
-      go o zero h = grind arith
-      go o (suc i) h = grind arith
+    kept = search (rules, same_values, in_time, times_one, as_collected)
 
 pub promised : {M : Type 0} (k : Model M) → Laws k → Promise k
 promised k laws = record {
   of_runs = λ sh start x fine low runs. kept k sh start fine x (run_inv k laws sh start fine low x runs);
-  of_refusals = λ sh s lent c code h. unchanged k sh s lent code c h;
-  of_takings = λ sh s lent. of_takings k sh s lent;
-  of_others = λ sh s lent. of_others k sh s lent;
+  of_refusals = λ sh s lent c code. unchanged k sh s lent code c;
+  of_takings = λ sh s lent w text q c zs h. grind arith;
+  of_others = λ sh s lent c t i h. grind arith;
 }

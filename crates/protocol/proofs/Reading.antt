@@ -1,11 +1,11 @@
 -- One entry more: what a transaction has read holds good, and what it does next.
-use Rattle.protocol.proofs.Base.{◌≡◌, refl, sym, ap, subst, subst₂, ◌∙◌, true, false, cond, List, [], ◌∷◌, ◌++◌, ℕ, arith, length, none-some, nth_within, All-push, All-take, All-weaker, length-take-le, take_at, cond_both, cond-true, or_parts, Option, Some, None, option_is_some, AllByRecursion, nth}
-use Rattle.protocol.specs.Rules.{Model, Entry, applied, falls_short, Note, Running, Locking, Checking, SplitItem, Stage, Stamp, Transaction, Shape, stamp_at, place_of, at_stage, looks, find_split, strays_from, strays, next_target, or_stage, after_running, is_noted, note, one_more, has_run, noting, reading, Event}
+use Rattle.protocol.proofs.Base.{◌≡◌, refl, sym, ap, subst, subst₂, ◌∙◌, true, false, cond, List, [], ◌∷◌, ◌++◌, ℕ, arith, length, nth_within, All-push, All-take, All-weaker, length-take-le, take_at, cond_both, cond-true, or_parts, Option, Some, None, option_is_some, AllByRecursion, nth}
+use Rattle.protocol.specs.Rules.{Model, Entry, applied, falls_short, Note, Running, SplitItem, Stage, Stamp, Transaction, Shape, stamp_at, place_of, at_stage, looks, find_split, strays_from, strays, after_running, is_noted, note, one_more, has_run, noting, reading, Event}
 use Rattle.serial.specs.Alone.{tells as told}
 use Rattle.protocol.proofs.Alone.{Finished, Gives, gives_more}
 use Rattle.protocol.proofs.Allowed.{none_is}
 use Rattle.protocol.proofs.Finding.{admitted}
-use Rattle.protocol.proofs.Invariant.{Ready, Faithful, StageOk, HandOk, pending_at}
+use Rattle.protocol.proofs.Invariant.{Ready, Faithful, StageOk, HandOk}
 use Rattle.protocol.proofs.Notes.{note_keeps, note_notes, note_all}
 use Rattle.protocol.proofs.Places.{take_one_more, all_nth}
 use Rattle.protocol.specs.State.{ran}
@@ -20,10 +20,6 @@ noted_before P ns key version = cond_both (is_noted ns key) ns (ns ++ (record { 
     (λ t a. subst (AllByRecursion P) (take_at ns _ (length ns) refl) (All-take P (length ns) _ a))
 
 module _ {M : Type 0} (k : Model M) (sh : Shape) (ls : List SplitItem) (w : ℕ) where
-  -- a transaction that has no place owes nothing
-  pub unplaced_owes : (key : ℕ) (es : List Entry) (g : Stage) → place_of g ≡ None → pending_at k sh ls w key es g ≡ []
-  unplaced_owes key es g h = grind arith
-
   module _ (ss : List Stamp) (table : List M) (events : List Event) where
     -- all that has to hold of a transaction in a hand, and that it has no place
     abbrev pub Early : Transaction → Type 0
@@ -31,15 +27,11 @@ module _ {M : Type 0} (k : Model M) (sh : Shape) (ls : List SplitItem) (w : ℕ)
 
     module _ (t : Transaction) (ready : Ready k sh events w t) (chosen : AllByRecursion (λ e. strays ls e ≡ false) (ran t)) where
       pub early : (g : Stage) → place_of g ≡ None → StageOk k sh ls ss table w t g → Early (at_stage t g)
-      early g unplaced ok = (record { ready = ready; chosen = chosen; placed = λ p e. absurd (none-some p (sym unplaced ∙ e)); stage = ok }, unplaced)
+      early g unplaced ok = grind arith
 
       -- no entry is left to run: it goes on to lock and to check
       pub locks_on : (from : ℕ) → Faithful k sh ls ss table w t → Finished t → Early (at_stage t (after_running ls (ran t) from))
-      locks_on from f d = go (next_target ls from (ran t))
-        where
-          go : (o : Option ℕ) → Early (at_stage t (or_stage o Locking Checking))
-          go None = early Checking refl (f, d)
-          go (Some c) = early (Locking c) refl (f, d)
+      locks_on from f d = grind arith
 
     -- one entry more
     module _ (t : Transaction) (e : Entry) (next : nth t.entries t.done ≡ Some e) (fits : strays ls e ≡ false) (ready : Ready k sh events w t)

@@ -1,22 +1,20 @@
 -- Steps before the check: an entry runs or is stashed, a record is locked, or the transaction meets a conflict.
-use Rattle.protocol.proofs.Base.{nth_getD, nth_past, get_or_past, ◌≡◌, refl, sym, ap, subst, ◌∙◌, true, false, List, [], ◌∷◌, ◌++◌, append-nil, map, ℕ, zero, suc, ◌<◌, arith, ltb, length, same_Some, none-some, All-push, length-map, cond_both, Option, Some, None, AllByRecursion, nth}
-use Rattle.protocol.specs.Rules.{Model, Entry, applied, modify, Outcome, Conflict, TurnedAway, SplitItem, Running, Locking, Ended, Stamp, Told, Transaction, Row, Shape, State, row_at, stamp_at, place_in, place_of, at_stage, strays, split_in, after_running, lock_for, free_own, clash, reading, Moved, World}
+use Rattle.protocol.proofs.Base.{nth_getD, get_or_past, ◌≡◌, refl, sym, ap, subst, true, false, List, [], ◌∷◌, ◌++◌, append-nil, map, ℕ, suc, ◌<◌, arith, ltb, length, none-some, All-push, length-map, cond_both, Option, Some, None, AllByRecursion, nth, rules, get_or-map, common_steps}
+use Rattle.protocol.specs.Rules.{Model, Entry, applied, modify, Outcome, TurnedAway, SplitItem, Running, Locking, Ended, Stamp, Told, Transaction, Row, Shape, State, row_at, stamp_at, place_in, place_of, at_stage, strays, split_in, after_running, lock_for, free_own, clash, reading, Moved, World}
 use Rattle.protocol.proofs.Doing.{moved}
 use Rattle.protocol.proofs.Frames.{faithful_grows, after, merged_step, Goes}
 use Rattle.protocol.proofs.Invariant.{Ready, StageOk, HandOk, pending, Kept, Inv}
 use Rattle.protocol.proofs.Owing.{stays_owing}
 use Rattle.protocol.proofs.Places.{nth_modify, nth_modify_other, length_modify}
-use Rattle.protocol.proofs.Reading.{unplaced_owes, Early, early, locks_on, reads_on}
+use Rattle.protocol.proofs.Reading.{Early, locks_on, reads_on}
 use Rattle.protocol.specs.State.{ran}
 
 -- locking and freeing leave the versions
 locked_version : (w i key : ℕ) (ss : List Stamp) → (stamp_at (modify i (lock_for w) ss) key).version ≡ (stamp_at ss key).version
-locked_version w i key ss = grind (arith, nth_getD, nth_past, get_or_past, nth_modify ss i (lock_for w), nth_modify_other ss i key (lock_for w), length_modify ss i (lock_for w))
+locked_version w i key ss = grind (arith, nth_getD, get_or_past, nth_modify, nth_modify_other, length_modify)
 
 freed_version : (w key : ℕ) (ss : List Stamp) → (stamp_at (map (free_own w) ss) key).version ≡ (stamp_at ss key).version
-freed_version w key [] = refl
-freed_version w zero (st ∷ ss) = refl
-freed_version w (suc key) (st ∷ ss) = freed_version w key ss
+freed_version w key ss = grind (arith, common_steps, get_or-map, get_or_past)
 
 module _ {M : Type 0} (k : Model M) (sh : Shape) (start : List M) (x : World M) (inv : Inv k sh start x) (w : ℕ) (inside : w < sh.workers)
     (t : Transaction) (held : (row_at x.state.rows w).current ≡ Some t) where
@@ -36,7 +34,7 @@ module _ {M : Type 0} (k : Model M) (sh : Shape) (start : List M) (x : World M) 
   hand = (inv.kept.rows w).hand t held
 
   owed_before : place_of t.stage ≡ None → (key : ℕ) → pending k sh ls w key row.current ≡ []
-  owed_before unplaced key = ap (pending k sh ls w key) held ∙ unplaced_owes k sh ls w key (ran t) t.stage unplaced
+  owed_before unplaced key = grind arith
 
   -- the stamps may change, but not the versions
   module _ (ss : List Stamp) (len : length ss ≡ length s.stamps) (same : (key : ℕ) → (stamp_at ss key).version ≡ (stamp_at s.stamps key).version) where
@@ -51,16 +49,15 @@ module _ {M : Type 0} (k : Model M) (sh : Shape) (start : List M) (x : World M) 
     -- a transaction that has no place goes on without one
     goes_on : (u : Transaction) → place_of t.stage ≡ None → Early k sh ls w ss x.table x.events u
         → Kept k sh start (after k sh start x w s.ticket s.place ss (record { current = Some u; stash = row.stash; acknowledged = row.acknowledged; merged = row.merged }) x.table [])
-    goes_on u unplaced ok = stays (Some u) row.stash (λ v e. subst (HandOk k sh ls ss x.table x.events w) (same_Some u v e) ok.0) (inv.kept.rows w).stash
-        (λ key. unplaced_owes k sh ls w key (ran u) u.stage ok.1 ∙ sym (owed_before unplaced key))
+    goes_on u unplaced ok = grind (arith, stays)
 
     -- or ends without one
     ends : (o : Outcome) → place_in o ≡ None → place_of t.stage ≡ None
         → Kept k sh start (after k sh start x w s.ticket s.place ss (record { current = Some (at_stage t (Ended o)); stash = row.stash; acknowledged = row.acknowledged; merged = row.merged }) x.table [])
-    ends o none unplaced = goes_on (at_stage t (Ended o)) unplaced (early k sh ls w ss x.table x.events t hand.ready hand.chosen (Ended o) none tt)
+    ends o none unplaced = grind (arith, goes_on)
 
   pub rests_ok : Goes k sh start x w (to (t, s.stamps)) []
-  rests_ok = stays s.stamps refl (λ _. refl) (Some t) row.stash (λ v e. subst (HandOk k sh ls s.stamps x.table x.events w) (same_Some t v e) hand) (inv.kept.rows w).stash (λ key. ap (pending k sh ls w key) (sym held))
+  rests_ok = grind (arith, stays, hand)
 
   pub reads_ok : (e : Entry) → t.stage ≡ Running → nth t.entries t.done ≡ Some e → strays ls e ≡ false → Goes k sh start x w (to (reading k ls w s.stamps (applied k w (ran t) x.table) t e, s.stamps)) []
   reads_ok e running next fits =
@@ -74,7 +71,7 @@ module _ {M : Type 0} (k : Model M) (sh : Shape) (start : List M) (x : World M) 
       (λ _. ends s.stamps refl (λ _. refl) TurnedAway refl (ap place_of running))
 
   pub clashes_ok : (key : ℕ) → place_of t.stage ≡ None → Goes k sh start x w (to (clash w s.stamps t key)) []
-  clashes_ok key unplaced = ends (map (free_own w) s.stamps) (length-map s.stamps (free_own w)) (λ j. freed_version w j s.stamps) (Conflict key) refl unplaced
+  clashes_ok key unplaced = search (rules, ends, length-map, freed_version)
 
   pub locks_ok : (key : ℕ) → t.stage ≡ Locking key → Goes k sh start x w (to (at_stage t (after_running ls (ran t) (suc key)), modify key (lock_for w) s.stamps)) []
   locks_ok key locking =

@@ -1,10 +1,10 @@
 -- A placed transaction applies an operation to its worker's own shard.
-use Rattle.protocol.proofs.Base.{◌≡◌, refl, sym, ap, subst, ◌∙◌, true, cond, List, [], ◌++◌, append_assoc, ◌⊎◌, inl, inr, ℕ, suc, ◌<◌, arith, eqb, length, same_Some, All-append, All-weaker, cases_eq, and_parts, tells, Some, mapped, nth}
-use Rattle.protocol.specs.Rules.{Model, Operation, Entry, modify, Merging, SplitItem, Sharding, Transaction, Row, Shape, State, row_at, place_of, at_stage, with_current, changes, ops_of, apply_all, split_in, find_split, is_split, sharded, after_writing, shard_at, shard_by, World, Split}
+use Rattle.protocol.proofs.Base.{◌≡◌, refl, sym, ap, ◌∙◌, true, cond, List, [], ◌++◌, append_assoc, ◌⊎◌, inl, inr, ℕ, suc, ◌<◌, arith, eqb, length, All-append, All-weaker, cases_eq, tells, Some, mapped, nth}
+use Rattle.protocol.specs.Rules.{Model, Operation, Entry, modify, Merging, SplitItem, Sharding, Transaction, Row, Shape, State, row_at, place_of, at_stage, with_current, ops_of, apply_all, split_in, find_split, is_split, after_writing, shard_at, shard_by, World, Split}
 use Rattle.protocol.proofs.Doing.{shared}
 use Rattle.protocol.proofs.Finding.{admitted}
 use Rattle.protocol.proofs.Frames.{ready_longer, moves, merged_step, Goes}
-use Rattle.protocol.proofs.Invariant.{StageOk, HandOk, pending, owed, ShardOk, Inv, gathered}
+use Rattle.protocol.proofs.Invariant.{HandOk, pending, owed, ShardOk, Inv, gathered}
 use Rattle.protocol.proofs.Operations.{apply_append}
 use Rattle.protocol.proofs.Owing.{gathered_same}
 use Rattle.protocol.proofs.Past.{past_none}
@@ -32,19 +32,14 @@ module _ {M : Type 0} (k : Model M) (sh : Shape) (start : List M) (x : World M) 
   hand = (inv.kept.rows w).hand t held
 
   split : is_split ls e.key ≡ true
-  split =
-      let h = subst (StageOk k sh ls s.stamps x.table w t) sharding hand.stage in
-      (and_parts (changes e) (is_split ls e.key) (subst (λ (d : Entry). sharded ls d ≡ true) (same_Some h.0 e (sym h.1 ∙ next)) h.2)).1
+  split = grind arith
 
   -- the entry's operation is owed no more
   owes : (key : ℕ) → pending k sh ls w key (row_at s.rows w).current ≡ cond (eqb e.key key) (ops_of w e) [] ++ pending k sh ls w key row.current
   owes key =
-      let h = held in
-      let g = sharding in
-      let f = split in
       let a = writing_owes k sh ls w key (ran t) p (suc i) in
       let b = drop_one_more (ran t) i e next in
-      grind (arith, tells)
+      grind (arith, tells, held, sharding, split)
 
   -- its record is split, as item j of the list
   module _ (j : ℕ) (l : SplitItem) (found : find_split 0 ls e.key ≡ Some (j, l)) where

@@ -1,10 +1,10 @@
 -- Where shards lie in the table, what making them fresh leaves, and that all that is owed to a split record is what it is split for.
-use Rattle.protocol.proofs.Base.{◌≡◌, refl, sym, ap, ◌∙◌, true, false, not, ◌&&◌, ◌||◌, List, [], ◌∷◌, ◌++◌, ◌⊎◌, inl, inr, ℕ, zero, suc, ◌+◌, ◌≤◌, ◌<◌, arith, eqb, leb, length, drop, none-some, nth_within, All-append, All-take, All-drop, cases_eq, cond_both, eqb-true, tells, Option, Some, None, AllByRecursion, nth, cond, mapped}
-use Rattle.protocol.specs.Rules.{Model, Action, Show, Need, Change, Entry, modify, Phase, Split, Merging, SplitItem, Stage, Running, Locking, Checking, Writing, Sharding, Ended, Stamp, takes, late, Transaction, Shape, row_at, verb_of, action_ops, ops_of, ops_on, split_in, find_split, is_split, same_verb, strays, strays_from, shard_at, Event, fresh_row, fresh_all, World, State, Row, Operation, apply_all}
+use Rattle.protocol.proofs.Base.{◌≡◌, refl, sym, ap, ◌∙◌, true, false, ◌&&◌, List, [], ◌∷◌, ◌++◌, ◌⊎◌, inl, inr, ℕ, zero, suc, ◌+◌, ◌≤◌, ◌<◌, arith, eqb, length, drop, none-some, nth_within, All-append, All-take, All-drop, cases_eq, tells, Option, Some, None, AllByRecursion, nth, cond, mapped, rules}
+use Rattle.protocol.specs.Rules.{Model, Entry, modify, Phase, Split, Merging, SplitItem, Stamp, takes, late, Transaction, Shape, row_at, ops_of, ops_on, split_in, find_split, is_split, strays, shard_at, Event, fresh_row, fresh_all, World, State, Row, Operation, apply_all}
 use Rattle.protocol.proofs.Finding.{admitted}
 use Rattle.protocol.proofs.Frames.{after, each_row}
-use Rattle.protocol.proofs.Invariant.{HandOk, Fits, pending_at, pending, owed, gathered, Inv, ShardOk, ValuesOk, ideal}
-use Rattle.protocol.proofs.Owing.{gathered_same, owes_then}
+use Rattle.protocol.proofs.Invariant.{HandOk, Fits, pending, owed, gathered, Inv, ShardOk, ValuesOk, ideal}
+use Rattle.protocol.proofs.Owing.{gathered_same}
 use Rattle.protocol.proofs.Past.{ideal_none}
 use Rattle.protocol.proofs.Places.{nth_modify, nth_modify_other}
 use Rattle.protocol.proofs.Splits.{found_at, good_found, good_item}
@@ -32,9 +32,7 @@ module _ {M : Type 0} (k : Model M) (keys : ℕ) where
   row_fresh : (w i : ℕ) (ls : List SplitItem) (table : List M) (j : ℕ) (l : SplitItem) (p : ℕ) (x : M) → nth ls j ≡ Some l → p ≡ shard_at keys w (i + j) → nth table p ≡ Some x
       → nth (fresh_row k keys w i ls table) p ≡ Some (fresh_for l x)
   row_fresh w i [] table j l p x h e q = absurd (none-some l h)
-  row_fresh w i (m ∷ ls) table zero l p x h e q =
-      let d : shard_at keys w i ≡ p = omega arith in
-      row_keeps (λ us. nth us p ≡ Some (fresh_for l x)) w (suc i) ls _ (λ j o us a b g. nth_modify_other us _ p _ (λ c. omega arith) ∙ g) (grind (arith, nth_modify table p (fresh_for m)))
+  row_fresh w i (m ∷ ls) table zero l p x h e q = row_keeps (λ us. nth us p ≡ Some (fresh_for l x)) w (suc i) ls _ (λ j o us a b g. nth_modify_other us _ p _ (λ c. omega arith) ∙ g) (grind (arith, nth_modify table p (fresh_for m)))
   row_fresh w i (m ∷ ls) table (suc j) l p x h e q = row_fresh w (suc i) ls _ j l p x h (omega arith) (nth_modify_other table _ p _ (λ d. omega arith) ∙ q)
 
   pub fresh_shard : (n : ℕ) (ls : List SplitItem) (table : List M) (w j : ℕ) (l : SplitItem) (x : M) → length ls ≤ 16 → w < n → nth ls j ≡ Some l → nth table (shard_at keys w j) ≡ Some x
@@ -58,36 +56,21 @@ split_item p ls i l h = grind arith
 
 module _ {M : Type 0} (k : Model M) (sh : Shape) (ls : List SplitItem) (w key j : ℕ) (l : SplitItem) (found : find_split 0 ls key ≡ Some (j, l)) where
   pub fits_entry : (e : Entry) → e.key ≡ key → strays ls e ≡ false → takes k w e e.action ≡ true → AllByRecursion (Fits k sh l) (ops_of w e)
-  fits_entry e d s n = go e.action (ap (strays_from e) (sym (ap (find_split 0 ls) d ∙ found)) ∙ s) n
-    where
-      go : (a : Action) → not (eqb e.part l.part && same_verb (verb_of a) l.verb) ≡ false → takes k w e a ≡ true → AllByRecursion (Fits k sh l) (action_ops w e.part a)
-      go (Show n) p q = tt
-      go (Need n b) p q = tt
-      go (Change v n m) p q = (grind (arith, tells), tt)
+  fits_entry e d s n = grind arith
 
   fits_entries : (es : List Entry) → AllByRecursion (λ e. strays ls e ≡ false) es → AllByRecursion (λ e. (e.key < sh.keys) × (takes k w e e.action ≡ true)) es → AllByRecursion (Fits k sh l) (ops_on w key es)
   fits_entries [] s n = tt
-  fits_entries (e ∷ es) s n =
-      All-append _ _ _ (cond_both (eqb e.key key) (ops_of w e) [] (AllByRecursion (Fits k sh l)) (λ d. fits_entry e (eqb-true _ _ d) s.0 n.0.1) (λ d. tt)) (fits_entries es s.1 n.1)
+  fits_entries (e ∷ es) s n = grind (arith, tells, All-append, fits_entry e, fits_entries es)
 
   -- what entries that passed the tests do to a split key, from a number on, is what it is split for
   pub fits_ran : (t : Transaction) (i : ℕ) → late k sh.keys w t.entries ≡ None → AllByRecursion (λ e. strays ls e ≡ false) (ran t) → AllByRecursion (Fits k sh l) (ops_on w key (drop i (ran t)))
-  fits_ran t i fine chosen =
-      fits_entries (drop i (ran t)) (All-drop _ i (ran t) chosen) (All-drop _ i (ran t) (All-take _ t.done t.entries (admitted k sh.keys w t.entries fine)))
+  fits_ran t i fine chosen = search (rules, fits_entries, All-drop, All-take, admitted)
 
   -- and so is what it still owes
   pub fits_pending : {ss : List Stamp} {table : List M} {events : List Event} (o : Option Transaction)
       → ((t : Transaction) → o ≡ Some t → HandOk k sh ls ss table events w t) → AllByRecursion (Fits k sh l) (pending k sh ls w key o)
   fits_pending None h = tt
-  fits_pending (Some t) h = go t.stage
-    where
-      go : (g : Stage) → AllByRecursion (Fits k sh l) (pending_at k sh ls w key (ran t) g)
-      go Running = tt
-      go (Locking c) = tt
-      go Checking = tt
-      go (Writing p c) = cond_both (is_split ls key || leb c key) (ops_on w key (ran t)) [] (AllByRecursion (Fits k sh l)) (λ e. fits_ran t 0 (h t refl).ready.1 (h t refl).chosen) (λ e. tt)
-      go (Sharding p i) = cond_both (is_split ls key) (ops_on w key (drop i (ran t))) [] (AllByRecursion (Fits k sh l)) (λ e. fits_ran t i (h t refl).ready.1 (h t refl).chosen) (λ e. tt)
-      go (Ended o) = tt
+  fits_pending (Some t) h = let f : (i : ℕ) → AllByRecursion (Fits k sh l) (ops_on w key (drop i (ran t))) = λ i. fits_ran t i (h t refl).ready.1 (h t refl).chosen in grind (arith, f 0, f)
 
 -- all that is owed to a split record is what it is split for
 module _ {M : Type 0} (k : Model M) (sh : Shape) (start : List M) (x : World M) (inv : Inv k sh start x) (key j : ℕ) (l : SplitItem)
@@ -126,13 +109,10 @@ module _ {M : Type 0} (k : Model M) (sh : Shape) (start : List M) (x : World M) 
   -- a shard is the one that changes, or it lies elsewhere
   this_or_other : (j n : ℕ) (m : SplitItem) → nth s.split n ≡ Some m
       → ((j ≡ w) × (n ≡ i) × (m ≡ l) × (now j m.key ≡ os)) ⊎ ((now j m.key ≡ ops j m.key) × (j ≡ w → n ≡ i → ⊥) × (shard_at sh.keys j n ≡ at → ⊥))
-  this_or_other j n m h =
-      let a = good_found k sh.keys s.split n m inv.kept.sized.split_good h in
-      let b = good_found k sh.keys s.split i l inv.kept.sized.split_good there in
-      grind (arith, tells, nth_within s.split n m h, nth_within s.split i l there, inv.kept.sized.split_few)
+  this_or_other j n m h = grind (arith, good_found, nth_within)
 
   owes_now : (key j : ℕ) → ((j ≡ w) × (owed k sh x'.state now key j ≡ now w key ++ pending k sh ls w key r.current)) ⊎ ((j ≡ w → ⊥) × (owed k sh s ops key j ≡ owed k sh x'.state now key j))
-  owes_now key = owes_then k sh start x inv w s.ticket s.place ss r [] inside now key (λ j d. grind (arith, tells))
+  owes_now key j = search rules
 
   pub values_at : ((p : ℕ) → (p ≡ at → ⊥) → (p ≡ l.key → ⊥) → nth table p ≡ nth x.table p) → ShardOk k sh table os w i l
       → (s.phase ≡ Merging → (n : ℕ) → n < r.merged → ((n ≡ i) × (os ≡ [])) ⊎ ((n ≡ i → ⊥) × (n < (row_at s.rows w).merged)))

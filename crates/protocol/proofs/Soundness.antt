@@ -1,7 +1,6 @@
 -- Every turn keeps what holds of the engine between calls: its locks, its counts, and that whoever has acknowledged rests.
-use Rattle.protocol.proofs.Base.{◌≡◌, refl, sym, ap, ◌∙◌, Bool, true, false, List, [], ◌∷◌, map, ◌⊎◌, inl, inr, ℕ, zero, suc, ◌+◌, ◌≤◌, ◌<◌, ◌^◌, arith, length, set, replicate, get_or_past, none-some, length-set, length-map, get_or-replicate, sum_by-cons, tells, Option, Some, None, Ok, Err, nth}
-use Rattle.protocol.specs.Rules.{Model, Phase, Closing, Merging, SplitItem, Stamp, Transaction, Row, Shape, State, idle, row_at, stamp_at, begin, with_current, split_in, first_of, owned_by, Moved, put_back, move, step_row, Call, Take, Draw, Step, Acknowledge, Merge, Collect, AnnounceSplit, AnnounceMerging, Release, next_phase, all_acknowledged, drawn, acknowledging, merging, revised, revise, opened, tests, makes, turn_by, turn, holds, aims, in_row, in_rows, may_rest, Counted, Sound, StaysSound}
-use Rattle.std.proofs.lemmas.List.{length-replicate}
+use Rattle.protocol.proofs.Base.{length-replicate, ◌≡◌, refl, sym, ap, ◌∙◌, Bool, true, false, List, [], ◌∷◌, map, ◌⊎◌, inl, inr, ℕ, zero, suc, ◌+◌, ◌≤◌, ◌<◌, ◌^◌, arith, length, set, replicate, get_or_past, length-set, length-map, get_or-replicate, tells, Option, Some, None, Ok, Err, rules, sum_by-replicate, get_or-map, common_steps}
+use Rattle.protocol.specs.Rules.{Model, Phase, Closing, Merging, SplitItem, Stamp, Transaction, Row, Shape, State, idle, row_at, stamp_at, with_current, split_in, owned_by, Moved, put_back, move, step_row, Call, Take, Draw, Step, Acknowledge, Merge, Collect, AnnounceSplit, AnnounceMerging, Release, next_phase, all_acknowledged, drawn, acknowledging, merging, revised, revise, opened, makes, turn, holds, aims, in_rows, may_rest, Counted, Sound, StaysSound}
 use Rattle.protocol.proofs.Allowed.{Allowed, allowed}
 use Rattle.protocol.proofs.Doing.{does}
 use Rattle.protocol.proofs.Invariant.{placed_weight, taken_weight}
@@ -11,29 +10,17 @@ use Rattle.protocol.proofs.Weights.{made_weighs}
 
 -- ---- being the owner, as it is said of locks and as a test
 
-owned_so : (o : Option ℕ) (w : ℕ) (b : Bool) → (o ≡ Some w → b ≡ true) × (b ≡ true → o ≡ Some w) → owned_by o w ≡ b
-owned_so o w b h = grind (arith, tells)
-
 locked_so : (o : Option ℕ) (w : ℕ) (b : Bool) → owned_by o w ≡ b → (o ≡ Some w → b ≡ true) × (b ≡ true → o ≡ Some w)
 locked_so o w b e = (λ h. grind (arith, tells), λ h. grind (arith, tells))
 
 -- ---- rows
 
--- as the engine opens, no row has anything
-idle_rows : (n w : ℕ) → row_at (replicate n idle) w ≡ idle
-idle_rows zero w = refl
-idle_rows (suc n) zero = refl
-idle_rows (suc n) (suc w) = idle_rows n w
-
 pub idle_weigh : (f : ℕ → ℕ) (n : ℕ) → in_rows f (replicate n idle) ≡ 0
-idle_weigh f zero = refl
-idle_weigh f (suc n) = omega (arith, sum_by-cons (in_row f) idle (replicate n idle), idle_weigh f n)
+idle_weigh f n = grind (arith, sum_by-replicate)
 
 -- a row of a list where each is changed
 pub row_map : (f : Row → Row) → f idle ≡ idle → (rows : List Row) (w : ℕ) → row_at (map f rows) w ≡ f (row_at rows w)
-row_map f e [] w = sym e
-row_map f e (r ∷ rows) zero = refl
-row_map f e (r ∷ rows) (suc w) = row_map f e rows w
+row_map f e rows w = grind (arith, common_steps, get_or-map, get_or_past)
 
 -- where all have acknowledged, each has
 pub each_done : (rows : List Row) (w : ℕ) → all_acknowledged rows ≡ true → w < length rows → (row_at rows w).acknowledged ≡ true
@@ -43,7 +30,7 @@ each_done (r ∷ rows) (suc w) h u = each_done rows w (grind arith) (omega arith
 
 -- and no hand has anything
 pub all_empty : (sh : Shape) (s : State) → Sound sh s → all_acknowledged s.rows ≡ true → (w : ℕ) → (row_at s.rows w).current ≡ None
-all_empty sh s sound done w = grind (arith, each_done s.rows w done, sound.resting w, get_or_past s.rows w idle)
+all_empty sh s sound done w = grind (arith, each_done, get_or_past)
 
 -- who has a transaction in hand has not acknowledged, and a step leaves it so
 stepped_rests : {M : Type 0} (p : Phase) (r : Row) (t : Transaction) (m : Moved M) → r.current ≡ Some t → (r.acknowledged ≡ true → may_rest p r ≡ true)
@@ -61,7 +48,7 @@ module _ (sh : Shape) (s : State) (sound : Sound sh s) where
 
   -- its locks, by the test
   was_own : (w key : ℕ) → key < length s.stamps → owned_by (stamp_at s.stamps key).owner w ≡ holds ls (row w).current key
-  was_own w key l = owned_so (stamp_at s.stamps key).owner w (holds ls (row w).current key) (sound.locks key w l)
+  was_own w key l = grind arith
 
   abbrev after : ℕ → ℕ → ℕ → List Stamp → Row → State
   after w ticket place ss r = record { ticket = ticket; place = place; phase = s.phase; split = s.split; stamps = ss; rows = set s.rows w r }
@@ -93,14 +80,7 @@ module _ (sh : Shape) (s : State) (sound : Sound sh s) where
   phase_sound : (p : Phase) (items : List SplitItem) (rows : List Row) → length rows ≡ length s.rows → ((w : ℕ) → (row_at rows w).current ≡ (row w).current)
       → (split_in p items ≡ ls) ⊎ ((w : ℕ) → (row w).current ≡ None) → ((w : ℕ) → (row_at rows w).acknowledged ≡ true → may_rest p (row_at rows w) ≡ true)
       → let then : State = record { ticket = s.ticket; place = s.place; phase = p; split = items; stamps = s.stamps; rows = rows } in Counted then → Sound sh then
-  phase_sound p items rows len hands alike rests counted = record {
-    rows = len ∙ sound.rows;
-    locks = λ key w l. locked_so (stamp_at s.stamps key).owner w _ (grind (arith, was_own w key l, hands w));
-    aims = λ w. grind (arith, hands w, sound.aims w);
-    counted = counted;
-    low = sound.low;
-    resting = rests;
-  }
+  phase_sound p items rows len hands alike rests counted = grind arith
 
   -- merging changes a version, and no owner
   revise_owns : (w : ℕ) (o : Option SplitItem) → Owns ls w s.stamps (revise s.place o s.stamps) (row w).current
@@ -110,7 +90,7 @@ module _ (sh : Shape) (s : State) (sound : Sound sh s) where
 
   module _ {M : Type 0} (k : Model M) (table : List M) where
     made_counted : (c : Call) → Allowed k sh s table c → Counted (makes k sh s table c).state
-    made_counted c a = let h = made_weighs k sh s table sound.rows c a in omega (arith, h.weight (λ _. 1), h.places, h.tickets, sound.counted)
+    made_counted c a = grind (arith, made_weighs)
 
     step_sound : (w : ℕ) → w < sh.workers → (o : Option Transaction) → (row w).current ≡ o → let m = step_row k sh.keys ls w (row w) s.stamps s.place table o in
         Counted (after w s.ticket m.place m.stamps m.row) → Sound sh (after w s.ticket m.place m.stamps m.row)
@@ -124,15 +104,12 @@ module _ (sh : Shape) (s : State) (sound : Sound sh s) where
 
     made_sound : (c : Call) → Allowed k sh s table c → Sound sh (makes k sh s table c).state
     made_sound (Take w text (Err c)) a = sound
-    made_sound (Take w text (Ok es)) a = hand_sound w (suc s.ticket) (with_current (row w) (Some (begin (suc s.ticket) es))) a.0
-        (λ key. grind (arith, a.2)) refl (λ h. grind (arith, sound.resting w h, a.1)) (let h = a.3 in omega (arith, sound.low)) (made_counted (Take w text (Ok es)) a)
+    made_sound (Take w text (Ok es)) a = grind (arith, common_steps)
     made_sound (Draw w) a = hand_sound w s.ticket (drawn (row w) (row w).stash) a.0 (λ key. grind (arith, a.2)) (grind (arith, a.2))
         (λ h. grind (arith, tells, sound.resting w, a.1, a.2)) sound.low (made_counted (Draw w) a)
     made_sound (Step w) a = step_sound w a.0 (row w).current refl (made_counted (Step w) a)
-    made_sound (Acknowledge w) a = hand_sound w s.ticket (acknowledging true (row w)) a.0 (λ key. refl) (sound.aims w)
-        (λ h. grind (arith, tells, a.1, a.2, a.3)) sound.low (made_counted (Acknowledge w) a)
-    made_sound (Merge w) a = row_sound w s.ticket s.place _ (merging (suc (row w).merged) (row w)) a.0
-        (revise_owns w (nth s.split (row w).merged)) (λ h. grind (arith, a.1, a.2)) sound.low (made_counted (Merge w) a)
+    made_sound (Acknowledge w) a = grind (arith, common_steps)
+    made_sound (Merge w) a = grind (arith, common_steps, revise_owns)
     made_sound (Collect w ticket buffer) a = hand_sound w s.ticket (with_current (row w) None) a.0 (λ key. grind (arith, a.1)) refl
         (λ h. grind (arith, sound.resting w h, a.1)) sound.low (made_counted (Collect w ticket buffer) a)
     made_sound (AnnounceSplit items) a = phase_sound Closing items (map (merging 0) s.rows) (length-map s.rows (merging 0))
@@ -147,33 +124,15 @@ module _ (sh : Shape) (s : State) (sound : Sound sh s) where
 
 module _ {M : Type 0} (k : Model M) (sh : Shape) where
   pub opened_sound : sh.first < 2 ^ 64 → Sound sh (opened sh)
-  opened_sound low = record {
-    rows = length-replicate sh.workers idle;
-    locks = λ key w l.
-        let o : (stamp_at (opened sh).stamps key).owner ≡ None = ap (λ (st : Stamp). st.owner) (get_or-replicate sh.keys key _ _ (rw length-replicate at l)) in
-        (λ e. absurd (none-some w (sym o ∙ e)), λ e. grind (arith, idle_rows sh.workers w));
-    aims = λ w. grind (arith, idle_rows sh.workers w);
-    counted = omega (arith, idle_weigh (λ _. 1) sh.workers);
-    low = omega arith;
-    resting = λ w h. grind (arith, idle_rows sh.workers w);
-  }
+  opened_sound low = grind (arith, length-replicate, get_or-replicate, get_or_past, idle_weigh)
 
   module _ (s : State) (table : List M) (sound : Sound sh s) where
     -- a turn gives no ticket a place that it does not hold, and holds no more tickets than it takes
     pub weighs : (f : ℕ → ℕ) (c : Call) → placed_weight f (turn k sh s table c).events + in_rows f (turn k sh s table c).state.rows ≤ in_rows f s.rows + taken_weight f (turn k sh s table c).events
-    weighs f c = go (first_of (tests k sh s table c)) refl
-      where
-        go : (o : Option (List ℕ)) → first_of (tests k sh s table c) ≡ o
-            → let m = turn_by k sh s table c o in placed_weight f m.events + in_rows f m.state.rows ≤ in_rows f s.rows + taken_weight f m.events
-        go (Some code) e = omega arith
-        go None e = (made_weighs k sh s table sound.rows c (allowed k sh s table c e)).weight f
+    weighs f c = grind (arith, made_weighs)
 
     pub turn_sound : (c : Call) → Sound sh (turn k sh s table c).state
-    turn_sound c = go (first_of (tests k sh s table c)) refl
-      where
-        go : (o : Option (List ℕ)) → first_of (tests k sh s table c) ≡ o → Sound sh (turn_by k sh s table c o).state
-        go (Some code) e = sound
-        go None e = made_sound sh s sound k table c (allowed k sh s table c e)
+    turn_sound c = let m = made_sound sh s sound k table c in grind (arith, allowed)
 
 pub stays_sound_lem : {M : Type 0} (k : Model M) → StaysSound k
-stays_sound_lem k = record { at_first = λ sh low. opened_sound k sh low; after_a_turn = λ sh s table c h. turn_sound k sh s table h c }
+stays_sound_lem k = search (rules, opened_sound, turn_sound)

@@ -1,14 +1,10 @@
 -- The list of split records: what is found in it, and what its test says.
-use Rattle.protocol.proofs.Base.{tells, cases_eq, inl, inr, ◌≡◌, refl, ap, ◌∙◌, true, List, [], ◌∷◌, ℕ, zero, suc, ◌+◌, ◌≤◌, ◌<◌, arith, none-some, same_Some, false≢true, Option, Some, None, option_is_some, nth}
+use Rattle.protocol.proofs.Base.{tells, cases_eq, inl, inr, ◌≡◌, refl, true, List, [], ◌∷◌, ℕ, zero, suc, ◌+◌, ◌≤◌, ◌<◌, arith, none-some, false≢true, Some, None, option_is_some, nth}
 use Rattle.protocol.specs.Rules.{Model, SplitItem, find_split, is_split, good_from}
 
 -- a key that is split is found
 pub split_found : (ls : List SplitItem) (key : ℕ) → is_split ls key ≡ true → (j : ℕ) × (l : SplitItem) × (find_split 0 ls key ≡ Some (j, l))
-split_found ls key h = go (find_split 0 ls key) refl h
-  where
-    go : (o : Option (ℕ × SplitItem)) → find_split 0 ls key ≡ o → option_is_some o ≡ true → (j : ℕ) × (l : SplitItem) × (find_split 0 ls key ≡ Some (j, l))
-    go None p q = absurd (false≢true q)
-    go (Some r) p q = (r.0, r.1, p)
+split_found ls key h = elim (find_split 0 ls key) as (λ o. option_is_some o ≡ true → (j : ℕ) × (l : SplitItem) × (o ≡ Some (j, l))) [ None ↦ λ q. absurd (false≢true q) | Some r ↦ λ q. (r.0, r.1, refl) ] h
 
 -- what is found stands at its place under the key
 found_from : (ls : List SplitItem) (i key j : ℕ) (l : SplitItem) → find_split i ls key ≡ Some (j, l) → (n : ℕ) × (j ≡ i + n) × (nth ls n ≡ Some l) × (l.key ≡ key)
@@ -19,11 +15,7 @@ found_from (x ∷ ls) i key j l h = elim (cases_eq x.key key) [
 ]
 
 pub found_at : (ls : List SplitItem) (key j : ℕ) (l : SplitItem) → find_split 0 ls key ≡ Some (j, l) → (nth ls j ≡ Some l) × (l.key ≡ key)
-found_at ls key j l h =
-    let r = found_from ls 0 key j l h in
-    let q = r.1 in
-    let e : j ≡ r.0 = omega arith in
-    (rw e r.2, r.3)
+found_at ls key j l h = grind (arith, found_from)
 
 module _ {M : Type 0} (k : Model M) (keys : ℕ) where
   -- what the test says of an item
@@ -32,29 +24,18 @@ module _ {M : Type 0} (k : Model M) (keys : ℕ) where
     pub inside : l.key < keys
     pub splits : (k.rule l.part l.verb).splits ≡ true
 
-  good_first : (from : ℕ) (l : SplitItem) (ls : List SplitItem) → good_from k keys from (l ∷ ls) ≡ true → Good from l × (good_from k keys (suc l.key) ls ≡ true)
-  good_first from l ls h = (record { low = grind (arith, tells); inside = grind (arith, tells); splits = grind arith }, grind arith)
-
   pub good_item : (from : ℕ) (ls : List SplitItem) (j : ℕ) (l : SplitItem) → good_from k keys from ls ≡ true → nth ls j ≡ Some l → Good from l
   good_item from [] j l h p = absurd (none-some l p)
-  good_item from (x ∷ ls) zero l h p = let d : x ≡ l = same_Some x l p in rw (← d) (good_first from x ls h).0
-  good_item from (x ∷ ls) (suc j) l h p =
-      let a = good_first from x ls h in
-      let low = a.0.low in
-      let r = good_item (suc x.key) ls j l a.1 p in
-      record { low = omega (arith, r.low); inside = r.inside; splits = r.splits }
+  good_item from (x ∷ ls) zero l h p = grind arith
+  good_item from (x ∷ ls) (suc j) l h p = grind (arith, good_item (suc x.key) ls j l)
 
   good_found_from : (from i : ℕ) (ls : List SplitItem) (j : ℕ) (l : SplitItem) → good_from k keys from ls ≡ true → nth ls j ≡ Some l → find_split i ls l.key ≡ Some (i + j, l)
   good_found_from from i [] j l h p = absurd (none-some l p)
-  good_found_from from i (x ∷ ls) zero l h p =
-      let e : i ≡ i + 0 = omega arith in grind (arith, tells)
+  good_found_from from i (x ∷ ls) zero l h p = let e : i ≡ i + 0 = omega arith in grind (arith, tells)
   good_found_from from i (x ∷ ls) (suc j) l h p =
-      let a = good_first from x ls h in
-      let r = good_item (suc x.key) ls j l a.1 p in
       let e : suc i + j ≡ i + suc j = omega arith in
-      let q = good_found_from (suc x.key) (suc i) ls j l a.1 p in
-      grind (arith, tells, r.low)
+      grind (arith, tells, good_item (suc x.key) ls j l, good_found_from (suc x.key) (suc i) ls j l)
 
   -- each item is found under its key
   pub good_found : (ls : List SplitItem) (j : ℕ) (l : SplitItem) → good_from k keys 0 ls ≡ true → nth ls j ≡ Some l → find_split 0 ls l.key ≡ Some (j, l)
-  good_found ls j l h p = let e : 0 + j ≡ j = omega arith in good_found_from 0 0 ls j l h p ∙ ap (λ n. Some (n, l)) e
+  good_found ls j l h p = grind (arith, good_found_from)

@@ -1,7 +1,6 @@
 -- What is pending at the stage that comes next, and what is so there.
-use Rattle.protocol.proofs.Base.{subst, sym, ◌++◌, same_Some, ◌≡◌, refl, ◌∙◌, true, cond, ◌||◌, List, [], ℕ, ◌≤◌, ◌<◌, arith, leb, drop, tells, Option, Some, None}
+use Rattle.protocol.proofs.Base.{◌++◌, ◌≡◌, ◌∙◌, true, cond, ◌||◌, List, [], ℕ, ◌≤◌, ◌<◌, arith, leb, drop, tells, Option, Some, None}
 use Rattle.protocol.specs.Rules.{Event, at_stage, Model, Entry, SplitItem, Stage, Stamp, Transaction, Shape, stamp_at, place_of, ops_on, is_split, next_target, next_shard, or_stage, after_writing, after_check, writes}
-use Rattle.protocol.proofs.Frames.{ready_longer}
 use Rattle.protocol.proofs.Places.{nth_longer}
 use Rattle.protocol.proofs.Invariant.{HandOk, StageOk, pending_at}
 use Rattle.protocol.proofs.Operations.{no_writes, NextShard, next_ops, next_sharded}
@@ -10,8 +9,7 @@ use Rattle.protocol.specs.State.{ran}
 
 -- what holds of the stage that comes next, by what is known of the next key or entry
 or_both : {A : Type 0} (Q : Option A → Type 0) (P : Stage → Type 0) (f : A → Stage) (g : Stage) → ((a : A) → Q (Some a) → P (f a)) → (Q None → P g) → (o : Option A) → Q o → P (or_stage o f g)
-or_both Q P f g some none None q = none q
-or_both Q P f g some none (Some a) q = some a q
+or_both Q P f g some none o q = grind arith
 
 -- whatever comes behind the check, the transaction has its place
 module _ (ls : List SplitItem) (es : List Entry) (p from : ℕ) where
@@ -39,19 +37,12 @@ module _ {M : Type 0} (k : Model M) (sh : Shape) (ls : List SplitItem) where
   -- what is so behind the writing, and behind the check if what is to be written has lower versions
   module _ (ss : List Stamp) (table : List M) (w : ℕ) (t : Transaction) (p : ℕ) where
     pub writing_ok : (from : ℕ) → StageOk k sh ls ss table w t (after_writing ls (ran t) p from)
-    writing_ok from =
-        or_both (λ o. next_shard ls from (ran t) ≡ o) (StageOk k sh ls ss table w t) _ _ (λ j h. next_sharded ls (ran t) from j h) (λ h. tt) (next_shard ls from (ran t)) refl
+    writing_ok from = grind (arith, next_sharded)
 
     pub check_ok : (from : ℕ) → ((key : ℕ) → key < sh.keys → writes ls (ran t) key ≡ true → from ≤ key → (stamp_at ss key).version < p) → StageOk k sh ls ss table w t (after_check ls (ran t) p from)
-    check_ok from low =
-        or_both (Next ls (ran t) from) (StageOk k sh ls ss table w t) _ _ (λ c n key l a b. low key l a (omega (arith, n.1))) (λ n. writing_ok 0) (next_target ls from (ran t)) (next_key ls from (ran t))
+    check_ok from low = grind (arith, writing_ok, next_key)
 
   -- a transaction that has its place goes on
   pub placed_on : (ss ss' : List Stamp) (table table' : List M) (es new : List Event) (w : ℕ) (t : Transaction) (p : ℕ) (g : Stage) → HandOk k sh ls ss table es w t → place_of t.stage ≡ Some p → place_of g ≡ Some p
       → StageOk k sh ls ss' table' w t g → (u : Transaction) → Some (at_stage t g) ≡ Some u → HandOk k sh ls ss' table' (es ++ new) w u
-  placed_on ss ss' table table' es new w t p g hand was is ok u e = subst (HandOk k sh ls ss' table' (es ++ new) w) (same_Some (at_stage t g) u e) (record {
-    ready = ready_longer k sh es new w t hand.ready;
-    chosen = hand.chosen;
-    placed = λ q h. rw (← same_Some p q (sym is ∙ h)) ((hand.placed p was).0, nth_longer es new _ _ (hand.placed p was).1);
-    stage = ok;
-  })
+  placed_on ss ss' table table' es new w t p g hand was is ok u e = grind (arith, nth_longer)

@@ -1,61 +1,22 @@
 -- Which key is locked or written next, and which operation goes to a shard next.
-use Rattle.protocol.proofs.Base.{◌≡◌, subst, Bool, true, false, not, ◌&&◌, List, [], ◌∷◌, inl, inr, ℕ, min, ◌≤◌, arith, eqb, or_cases, or_left, or_right, cases_lt, cond_both, false≢true, tells, Option, Some, None, AllByRecursion}
-use Rattle.protocol.specs.Rules.{Entry, SplitItem, changes, is_split, wanted, next_target, lesser, writes}
+use Rattle.protocol.proofs.Base.{◌≡◌, true, false, List, [], ◌∷◌, ℕ, ◌≤◌, arith, false≢true, Option, Some, None, AllByRecursion}
+use Rattle.protocol.specs.Rules.{Entry, SplitItem, is_split, next_target, writes}
 
 module _ (ls : List SplitItem) where
-  -- the test of one entry
-  abbrev pub one_writes : Entry → ℕ → Bool
-  one_writes e key = changes e && (not (is_split ls e.key) && eqb e.key key)
-
-  writes_wanted : (from key : ℕ) (e : Entry) → one_writes e key ≡ true → from ≤ key → wanted ls from e ≡ true
-  writes_wanted from key e h l = grind (arith, tells)
-
-  wanted_writes : (from : ℕ) (e : Entry) → wanted ls from e ≡ true → (one_writes e e.key ≡ true) × (from ≤ e.key)
-  wanted_writes from e h = grind (arith, tells)
-
-  one_key : (e : Entry) (key : ℕ) → one_writes e key ≡ true → e.key ≡ key
-  one_key e key h = grind (arith, tells)
-
   -- a key that is written is not split, and is the key of an entry
   pub writes_unsplit : (es : List Entry) (key : ℕ) → writes ls es key ≡ true → is_split ls key ≡ false
   writes_unsplit [] key h = absurd (false≢true h)
-  writes_unsplit (e ∷ es) key h = grind (arith, tells, writes_unsplit es key)
+  writes_unsplit (e ∷ es) key h = grind (arith, writes_unsplit es key)
 
   pub writes_key : (P : ℕ → Type 0) (es : List Entry) (key : ℕ) → AllByRecursion (λ e. P e.key) es → writes ls es key ≡ true → P key
   writes_key P [] key a h = absurd (false≢true h)
-  writes_key P (e ∷ es) key a h = elim (or_cases (one_writes e key) (writes ls es key) h) [
-    | inl p ↦ subst P (one_key e key p) a.0
-    | inr p ↦ writes_key P es key a.1 p
-  ]
+  writes_key P (e ∷ es) key a h = grind (arith, writes_key P es key)
 
   -- what is said of the next key: there is none, or it is the least that the entries write
   abbrev pub Next : List Entry → ℕ → Option ℕ → Type 0
   Next es from None = (key : ℕ) → writes ls es key ≡ true → from ≤ key → ⊥
   Next es from (Some c) = (writes ls es c ≡ true) × (from ≤ c) × ((key : ℕ) → writes ls es key ≡ true → from ≤ key → c ≤ key)
 
-  module _ (e : Entry) (es : List Entry) (from : ℕ) where
-    passed_over : wanted ls from e ≡ false → (o : Option ℕ) → Next es from o → Next (e ∷ es) from o
-    passed_over h None n = λ key w l. n key (grind (arith, tells, writes_wanted from key e)) l
-    passed_over h (Some c) n =
-        (or_right (one_writes e c) (writes ls es c) n.0, n.1, λ key w l. n.2 key (grind (arith, tells, writes_wanted from key e)) l)
-
-    taken_in : wanted ls from e ≡ true → (o : Option ℕ) → Next es from o → Next (e ∷ es) from (Some (lesser e.key o))
-    taken_in h None n =
-        let f = wanted_writes from e h in
-        (or_left (one_writes e e.key) (writes ls es e.key) f.0, f.1, λ key w l. grind (arith, one_key e key, n key))
-    taken_in h (Some c) n =
-        let f = wanted_writes from e h in
-        elim (cases_lt e.key c) [
-          | inl l ↦
-              let m : min e.key c ≡ e.key = omega arith in
-              rw m (or_left (one_writes e e.key) (writes ls es e.key) f.0, f.1, λ key w u. grind (arith, one_key e key, n.2 key))
-          | inr l ↦
-              let m : min e.key c ≡ c = omega arith in
-              rw m (or_right (one_writes e c) (writes ls es c) n.0, n.1, λ key w u. grind (arith, one_key e key, n.2 key))
-        ]
-
   pub next_key : (from : ℕ) (es : List Entry) → Next es from (next_target ls from es)
   next_key from [] = λ key w. absurd (false≢true w)
-  next_key from (e ∷ es) =
-      cond_both (wanted ls from e) (Some (lesser e.key (next_target ls from es))) (next_target ls from es) (Next (e ∷ es) from)
-      (λ h. taken_in e es from h (next_target ls from es) (next_key from es)) (λ h. passed_over e es from h (next_target ls from es) (next_key from es))
+  next_key from (e ∷ es) = grind (arith, next_key from es)

@@ -1,12 +1,12 @@
 -- Every turn of every run keeps the invariant.
-use Rattle.protocol.proofs.Base.{◌≡◌, refl, sym, subst, ◌∙◌, true, List, [], ◌++◌, append-nil, ℕ, ◌<◌, ◌^◌, arith, ℤ, false≢true, Option, Some, None, Result}
-use Rattle.protocol.specs.Rules.{Model, Laws, ReadAs, Entry, SplitItem, first_of, Transaction, Shape, State, row_at, split_in, Moved, step_row, Taking, Placing, Call, Take, Draw, Step, Acknowledge, Merge, Collect, AnnounceSplit, AnnounceMerging, Release, Event, Made, Refused, left_in, runs, refuse_open, tests, merges, makes, turn_by, turn, taking_in, placing_in, World, Lawful, Runs, opens, refuses, Unchanged}
+use Rattle.protocol.proofs.Base.{◌≡◌, refl, sym, subst, ◌∙◌, true, List, [], ◌++◌, append-nil, ℕ, ◌<◌, ◌^◌, arith, false≢true, Option, Some, None, Result, common_steps, rules, tells}
+use Rattle.protocol.specs.Rules.{Model, Laws, ReadAs, Entry, SplitItem, first_of, Transaction, Shape, State, row_at, split_in, Moved, step_row, Call, Take, Draw, Step, Acknowledge, Merge, Collect, AnnounceSplit, AnnounceMerging, Release, Event, Made, Refused, runs, refuse_open, tests, merges, makes, turn_by, turn, World, Lawful, Runs, opens, refuses, Unchanged}
 use Rattle.protocol.proofs.Allowed.{allowed}
 use Rattle.protocol.proofs.Committing.{places_ok}
 use Rattle.protocol.proofs.Doing.{Does, rests, reads, strays_off, clashes, locks, places, writes_on, shards, does}
 use Rattle.protocol.proofs.Frames.{after, Goes}
 use Rattle.protocol.proofs.Hands.{takes_ok, draws_ok, collects_ok, acknowledges_ok}
-use Rattle.protocol.proofs.Invariant.{Weighed, Kept, Inv}
+use Rattle.protocol.proofs.Invariant.{Kept, Inv}
 use Rattle.protocol.proofs.Merging.{merges_ok}
 use Rattle.protocol.proofs.Past.{weight_append}
 use Rattle.protocol.proofs.Phases.{opens_ok, splits_ok, merging_ok, releases_ok}
@@ -20,14 +20,8 @@ use Rattle.protocol.specs.Turns.{placings, takes}
 
 -- a refused turn changes nothing
 module _ {M : Type 0} (k : Model M) (sh : Shape) (s : State) (lent : List M) (code : List ℕ) where
-  abbrev Same : Made M → Type 0
-  Same m = (m.state ≡ s) × (m.table ≡ lent) × ((buffer : List ℤ) → left_in buffer m.answer ≡ buffer) × (m.events ≡ [])
-
   pub unchanged : (c : Call) → (turn k sh s lent c).answer ≡ Refused code → Unchanged k sh s lent c
-  unchanged c h = let r = go (first_of (tests k sh s lent c)) h in record { state = r.0; table = r.1; buffer = r.2; events = r.3 }
-    where
-      go : (o : Option (List ℕ)) → (turn_by k sh s lent c o).answer ≡ Refused code → Same (turn_by k sh s lent c o)
-      go o g = (grind arith, grind arith, λ buffer. grind arith, grind arith)
+  unchanged c h = grind arith
 
 module _ {M : Type 0} (k : Model M) (laws : Laws k) (sh : Shape) (start : List M) where
   -- the world after what a turn made
@@ -72,36 +66,24 @@ module _ {M : Type 0} (k : Model M) (laws : Laws k) (sh : Shape) (start : List M
         let a = allowed k sh s x.table (Merge w) h in
         let l = nth_there s.split (row_at s.rows w).merged a.3 in
         subst (λ (o : Option SplitItem). Fine (merges k sh s x.table w (row_at s.rows w).merged o)) (sym l.1) (merges_ok k laws sh start x inv w a.0 a.1 a.2 l.0 l.1)
-    makes_fine (Collect w ticket buffer) _ h = let a = allowed k sh s x.table (Collect w ticket buffer) h in collects_ok k sh start x inv w a.0 ticket a.1
+    makes_fine (Collect w ticket buffer) _ h = grind (arith, tells, collects_ok)
     makes_fine (AnnounceSplit ls) _ h = let a = allowed k sh s x.table (AnnounceSplit ls) h in splits_ok k sh start x inv ls a.0 a.1
     makes_fine AnnounceMerging _ h = merging_ok k sh start x inv (allowed k sh s x.table AnnounceMerging h)
     makes_fine (Release p) _ h = let a = allowed k sh s x.table (Release p) h in releases_ok k sh start x inv p a.0 a.1 a.2
 
     -- a turn that changes nothing
     still : x ≡ record { state = s; table = x.table; events = x.events ++ [] }
-    still = λ i. record { state = s; table = x.table; events = sym (append-nil x.events) i }
+    still = grind (arith, append-nil)
 
     turn_fine : (c : Call) → Lawful c → (o : Option (List ℕ)) → first_of (tests k sh s x.table c) ≡ o → Fine (turn_by k sh s x.table c o)
-    turn_fine c r (Some code) h = subst (Kept k sh start) still inv.kept
-    turn_fine c r None h = makes_fine c r h
-
-    weighed_after : (c : Call) → Weighed (x.events ++ (turn k sh s x.table c).events) (turn k sh s x.table c).state.rows
-    weighed_after c f =
-        let new = (turn k sh s x.table c).events in
-        let a = weight_append placing_in (λ (p : Placing). f p.ticket) x.events new in
-        let b = weight_append taking_in (λ (t : Taking). f t.ticket) x.events new in
-        omega (arith, inv.weighed f, weighs k sh s x.table inv.sound f c)
+    turn_fine c r o h = grind (arith, common_steps, makes_fine)
 
     turn_inv : (c : Call) → Lawful c → Inv k sh start (then x (turn k sh s x.table c))
-    turn_inv c r = record {
-      sound = turn_sound k sh s x.table inv.sound c;
-      weighed = weighed_after c;
-      kept = turn_fine c r (first_of (tests k sh s x.table c)) refl;
-    }
+    turn_inv c r = record { sound = turn_sound k sh s x.table inv.sound c; weighed = λ f. grind (arith, weight_append, weighs); kept = turn_fine c r (first_of (tests k sh s x.table c)) refl }
 
   -- what holds of every world that a run leads to
   pub run_inv : refuse_open k sh start ≡ None → sh.first < 2 ^ 64 → (x : World M) → Runs k sh start x → Inv k sh start x
-  run_inv fine low x opens = record { sound = opened_sound k sh low; weighed = λ f. omega (arith, idle_weigh f sh.workers); kept = opens_ok k sh start fine }
+  run_inv fine low x opens = search (rules, opened_sound, idle_weigh, opens_ok)
   run_inv fine low x (goes_on {x = y} c r lawful) = turn_inv y (run_inv fine low y r) c lawful
   run_inv fine low x (refuses {x = y} c lent code r lawful h) =
       let u = unchanged k sh y.state lent code c h in

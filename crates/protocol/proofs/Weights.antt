@@ -1,6 +1,6 @@
 -- The tickets that have no place: what a turn adds to them, and what it takes from them.
-use Rattle.protocol.proofs.Base.{◌≡◌, refl, ap, false, List, [], ◌∷◌, map, ℕ, ◌+◌, ◌≤◌, ◌<◌, arith, length, set, sum_by-cons, sum_by_push, sum_by-set, Option, Some, None, Ok, Err}
-use Rattle.protocol.specs.Rules.{Model, SplitItem, Stamp, Transaction, Row, Shape, State, idle, row_at, split_in, Moved, put_back, step_row, Call, Take, Draw, Step, Acknowledge, Merge, Collect, AnnounceSplit, AnnounceMerging, Release, Event, drawn, acknowledging, merging, makes, in_hand, in_row, in_rows}
+use Rattle.protocol.proofs.Base.{◌≡◌, List, [], ℕ, ◌+◌, ◌≤◌, ◌<◌, arith, length, set, sum_by_push, sum_by-set, Option, Some, None, common_steps}
+use Rattle.protocol.specs.Rules.{Model, SplitItem, Stamp, Transaction, Row, Shape, State, idle, row_at, split_in, Moved, put_back, step_row, Call, Event, drawn, makes, in_row, in_rows}
 use Rattle.protocol.proofs.Allowed.{Allowed}
 use Rattle.protocol.proofs.Doing.{Does, rests, reads, strays_off, clashes, locks, places, writes_on, shards, does}
 use Rattle.protocol.proofs.Invariant.{placed_weight, taken_weight}
@@ -11,17 +11,11 @@ module _ (f : ℕ → ℕ) where
   set_weighs : (rows : List Row) (w : ℕ) (r : Row) (p q : ℕ) → w < length rows → p + in_row f r ≤ in_row f (row_at rows w) + q → p + in_rows f (set rows w r) ≤ in_rows f rows + q
   set_weighs rows w r p q l h = omega (arith, sum_by-set (in_row f) rows w r idle l)
 
-  -- every row is changed, and holds what it held
-  map_weighs : (g : Row → Row) → ((r : Row) → in_row f (g r) ≡ in_row f r) → (rows : List Row) → in_rows f (map g rows) ≡ in_rows f rows
-  map_weighs g same [] = refl
-  map_weighs g same (r ∷ rows) = omega (arith, sum_by-cons (in_row f) (g r) (map g rows), sum_by-cons (in_row f) r rows, same r, map_weighs g same rows)
-
   abbrev ticket_weight : Transaction → ℕ
   ticket_weight t = f t.ticket
 
   drawn_weighs : (r : Row) (ts : List Transaction) → r.current ≡ None → r.stash ≡ ts → in_row f (drawn r ts) ≤ in_row f r
-  drawn_weighs r [] empty e = omega arith
-  drawn_weighs r (t ∷ ts) empty e = grind (arith, sum_by-cons ticket_weight t ts)
+  drawn_weighs r ts empty e = grind (arith, common_steps)
 
 -- a step gives the place that it takes a ticket from
 module _ {M : Type 0} (k : Model M) (keys : ℕ) (ls : List SplitItem) (w : ℕ) (ss : List Stamp) (place : ℕ) (table : List M) (t : Transaction) where
@@ -37,14 +31,7 @@ module _ {M : Type 0} (k : Model M) (keys : ℕ) (ls : List SplitItem) (w : ℕ)
   step_weighs f r h (shards p i e g there) = grind arith
 
   step_counts : {m : Moved M} {new : List Event} → Does k keys ls w ss place table t m new → (m.place ≡ place + placed_weight (λ _. 1) new) × (taken_weight (λ _. 1) new ≡ 0)
-  step_counts rests = (omega arith, refl)
-  step_counts (reads e g next fits free) = (omega arith, refl)
-  step_counts (strays_off g) = (omega arith, refl)
-  step_counts (clashes key g) = (omega arith, refl)
-  step_counts (locks key g free) = (omega arith, refl)
-  step_counts (places g fresh) = (omega arith, refl)
-  step_counts (writes_on p key g) = (omega arith, refl)
-  step_counts (shards p i e g there) = (omega arith, refl)
+  step_counts h = grind arith
 
 -- ---- calls
 
@@ -63,7 +50,7 @@ module _ {M : Type 0} (k : Model M) (sh : Shape) (s : State) (table : List M) (f
 
   -- nothing happens
   rows_weigh : (rows : List Row) → ((f : ℕ → ℕ) → in_rows f rows ≤ in_rows f s.rows) → Weighs s rows s.place s.ticket []
-  rows_weigh rows h = record { weight = λ f. omega (arith, h f); places = omega arith; tickets = omega arith }
+  rows_weigh rows h = grind arith
 
   row_weighs : (w : ℕ) → w < sh.workers → (r : Row) → ((f : ℕ → ℕ) → in_row f r ≤ in_row f (row w)) → Weighs s (set s.rows w r) s.place s.ticket []
   row_weighs w l r h = rows_weigh (set s.rows w r) (λ f. omega (arith, set_weighs f s.rows w r 0 0 (omega arith) (omega (arith, h f))))
@@ -75,21 +62,7 @@ module _ {M : Type 0} (k : Model M) (sh : Shape) (s : State) (table : List M) (f
   hand_weighs w l (Some t) e =
       let d = does k sh.keys ls w s.stamps s.place table t in
       let c = step_counts k sh.keys ls w s.stamps s.place table t d in
-      record {
-        weight = λ f. set_weighs f s.rows w _ _ _ (omega arith) (step_weighs k sh.keys ls w s.stamps s.place table t f (row w) e d);
-        places = c.0;
-        tickets = omega (arith, c.1);
-      }
+      record { weight = λ f. set_weighs f s.rows w _ _ _ (omega arith) (step_weighs k sh.keys ls w s.stamps s.place table t f (row w) e d); places = c.0; tickets = omega (arith, c.1) }
 
   pub made_weighs : (c : Call) → Allowed k sh s table c → let m = makes k sh s table c in Weighs s m.state.rows m.state.place m.state.ticket m.events
-  made_weighs (Take w text (Err c)) a = rows_weigh s.rows (λ f. omega arith)
-  made_weighs (Take w text (Ok es)) a =
-      record { weight = λ f. set_weighs f s.rows w _ _ _ (omega (arith, a.0)) (omega (arith, ap (in_hand f) a.2)); places = omega arith; tickets = omega arith }
-  made_weighs (Draw w) a = row_weighs w a.0 (drawn (row w) (row w).stash) (λ f. drawn_weighs f (row w) (row w).stash a.2 refl)
-  made_weighs (Step w) a = hand_weighs w a.0 (row w).current refl
-  made_weighs (Acknowledge w) a = row_weighs w a.0 _ (λ f. omega arith)
-  made_weighs (Merge w) a = row_weighs w a.0 _ (λ f. omega arith)
-  made_weighs (Collect w ticket buffer) a = row_weighs w a.0 _ (λ f. omega arith)
-  made_weighs (AnnounceSplit items) a = rows_weigh _ (λ f. omega (arith, map_weighs f (merging 0) (λ r. refl) s.rows))
-  made_weighs AnnounceMerging a = rows_weigh s.rows (λ f. omega arith)
-  made_weighs (Release p) a = rows_weigh _ (λ f. omega (arith, map_weighs f (acknowledging false) (λ r. refl) s.rows))
+  made_weighs c a = grind (arith, common_steps, drawn_weighs, hand_weighs)

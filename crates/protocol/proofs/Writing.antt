@@ -65,10 +65,7 @@ module _ {M : Type 0} (k : Model M) (laws : Laws k) (sh : Shape) (start : List M
 
   -- the version of each record is what it was, or it is the record that is written
   version_is : (key : ℕ) → ((key ≡ c) × ((stamp_at ss key).version ≡ p) × ((stamp_at s.stamps key).version < p)) ⊎ ((key ≡ c → ⊥) × ((stamp_at ss key).version ≡ (stamp_at s.stamps key).version))
-  version_is key = elim (cases_eq key c) [
-    | inl e ↦ inl (e, rw e (ap (λ (st : Stamp). st.version) (get_or_modify s.stamps c (stamped p) _ (omega (arith, low, inv.kept.sized.stamps_len)))), rw e (older c low written (omega arith)))
-    | inr d ↦ inr (d, ap (λ (st : Stamp). st.version) (get_or_modify_other s.stamps c key (stamped p) _ d))
-  ]
+  version_is key = grind (arith, get_or_modify, low, get_or_modify_other)
 
   -- what is owed stays, but for the record itself, where it is done
   owes : (key : ℕ) → (key ≡ c → ⊥) → pending k sh ls w key (Some next) ≡ pending k sh ls w key (row_at s.rows w).current
@@ -76,7 +73,7 @@ module _ {M : Type 0} (k : Model M) (laws : Laws k) (sh : Shape) (start : List M
       ∙ sym (ap (pending k sh ls w key) held ∙ ap (pending_at k sh ls w key (ran t)) writing)
 
   own_before : owed k sh s ops c w ≡ os ++ []
-  own_before = let a = inv.kept.values.unsplit w c inside unsplit in let h = held in let g = writing in let z = append-nil os in grind (arith, tells)
+  own_before = grind (arith, unsplit, append-nil)
 
   at_key : mapped (apply_all k (gathered k sh (owed k sh s ops c) sh.workers)) (nth x.table c) ≡ mapped (apply_all k (gathered k sh (now c) sh.workers)) (nth table c)
   at_key =
