@@ -67,7 +67,7 @@ fn reply(engine: &mut Option<Engine>, heap: Global, line: &[u8]) -> Result<Reply
 
 // Opens an engine, unless one is open.
 fn open(engine: &mut Option<Engine>, heap: Global, opening: Opening) -> Result<Reply, Failure>
-    ensures { Opens (engine_of engine.old) opening.workers opening.keys opening.first opening.kind (told result) (engine_of engine.new) }
+    ensures { Opens (engine_of engine.old) opening.figures.workers opening.figures.keys opening.figures.first opening.kind (told result) (engine_of engine.new) }
 {
     if engine.is_some() {
         return Err(Failure::EngineOpen);
@@ -76,7 +76,7 @@ fn open(engine: &mut Option<Engine>, heap: Global, opening: Opening) -> Result<R
     Ok(Reply::Joined)
 }
 
-// Runs the transaction whose text is written so.
+// Runs the transaction whose text is written so; the worker is handed on beside another text, the one without escapes.
 fn run(
     engine: &mut Option<Engine>,
     heap: Global,

@@ -12,7 +12,7 @@ use kinds::kind::Kind;
 use numbers::count::Count;
 use refusals::Refusal;
 use script::{KindName, Opening, Query};
-use solo::solo::{Committed, Figures, Solo};
+use solo::solo::{Committed, Solo};
 use std::alloc::Global;
 
 // An engine of either kind. Its calls go by cases: a `dyn` engine would be made here and handed out, which the gate refuses.
@@ -26,20 +26,15 @@ impl Engine {
     // An engine of a kind with its values at their start.
     #[tactic(auto, using(crate::proofs::Starts::opened_count))]
     pub fn open(heap: Global, opening: Opening) -> Result<Engine, Refusal>
-        ensures { coded opened result ≡ opened_as opening.workers opening.keys opening.first opening.kind (is_ok result) }
+        ensures { coded opened result ≡ opened_as opening.figures.workers opening.figures.keys opening.figures.first opening.kind (is_ok result) }
     {
-        let figures = Figures {
-            workers: opening.workers,
-            keys: opening.keys,
-            first: opening.first,
-        };
         match opening.kind {
             KindName::Count => {
-                let solo = Solo::open(heap, figures, Count::new())?;
+                let solo = Solo::open(heap, opening.figures, Count::new())?;
                 Ok(Engine::Counts(solo))
             }
             KindName::Four => {
-                let solo = Solo::open(heap, figures, four::start())?;
+                let solo = Solo::open(heap, opening.figures, four::start())?;
                 Ok(Engine::Fours(solo))
             }
         }

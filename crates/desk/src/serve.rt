@@ -17,7 +17,7 @@ pub fn serve<R: BufRead, W: Write>(heap: Global, script: &mut R, out: &mut W) ->
 {
     let mut desk = Desk::new();
     let mut line = Vec::new(heap);
-    // It has an end, as every loop here: a script of so many lines does not come to pass.
+    // A loop that goes on while there are lines would need a handle `Wait`, since a script need not end; the line's buffer is used again.
     for _ in 0..u64::MAX {
         line.clear();
         if script.read_until(b'\n', &mut line)? == 0 {

@@ -1,16 +1,16 @@
 // An engine of each kind opens, where there is memory.
 use crate::engine::Engine;
 use script::{KindName, Opening};
+use solo::solo::Figures;
 
 // Whether an engine of a kind, with two keys, opens.
 fn opens(rt: &HostRuntime, kind: KindName) -> bool {
-    let opening = Opening {
+    let figures = Figures {
         workers: 1,
         keys: 2,
         first: 1,
-        kind,
     };
-    Engine::open(rt.alloc(), opening).is_ok()
+    Engine::open(rt.alloc(), Opening { figures, kind }).is_ok()
 }
 
 #[test]

@@ -13,7 +13,7 @@ pub struct Count {
     ghost small: { value < 2 ^ 63 },
 }
 
-// The largest count. No `From` leads from an `i64` to a `u64` or back; the check proves of each cast that it loses nothing.
+// The largest count. A constant may call no function, so it is cast; the check proves that the cast loses nothing.
 const MOST: u64 = i64::MAX as u64;
 
 impl Count {
@@ -51,10 +51,10 @@ impl Part for Count {
     }
 
     fn shown(&self, _number: u8) -> i64 {
-        self.value as i64
+        self.value.cast_signed()
     }
 
-    // `add` and `max` stand here and in `merge`: where a `Count` of the argument's number is merged, the proof of `max` needs a lemma over all verbs.
+    // `add` and `max` stand here and in `merge`: by merging a `Count` of the argument's number, tried three ways, the proof didn't close.
     fn apply(&mut self, verb: Verb, argument: Argument) {
         let number = u64::try_from(argument.number).unwrap_or(0);
         self.value = match verb {

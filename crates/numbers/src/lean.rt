@@ -52,7 +52,7 @@ impl Part for Lean {
         self.value
     }
 
-    // All but `put` stand here and in `merge`: where a `Lean` of the argument's number is merged, the proof needs a lemma over all verbs.
+    // All but `put` stand here and in `merge`, as in `Count`: by merging a `Lean` of the argument's number the proof didn't close.
     fn apply(&mut self, verb: Verb, argument: Argument) {
         self.value = match verb {
             Verb::Put => argument.number,

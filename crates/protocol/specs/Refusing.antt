@@ -1,4 +1,4 @@
--- How a call is refused: the first of its tests that finds something wrong, under the code that `refusals` gives it.
+-- How a call is refused: the first of its tests that finds something wrong, under the number that docs/RULES.md gives it.
 use Rattle.std.specs.Prelude.{ℕ, suc, Bool, cond, not, ◌&&◌, List, [], ◌∷◌, Some, None, Ok, Err, Option, Result, nat_le}
 use Rattle.std.specs.Option.{option_map}
 use Rattle.kinds.specs.Model.{Model}

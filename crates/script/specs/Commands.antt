@@ -27,7 +27,7 @@ pub data Request : Type 0 where
   shows : ℕ → ℕ → ℕ → Request
 
 abbrev pub meaning : Command → Request
-meaning (Open o) = opens o.workers o.keys o.first o.kind
+meaning (Open o) = opens o.figures.workers o.figures.keys o.figures.first o.kind
 meaning (Run worker text) = runs worker text.now
 meaning (Tally t) = shows t.key t.part t.number
 

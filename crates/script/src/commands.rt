@@ -5,6 +5,7 @@ ghost use Rattle.script.specs.Commands.{KindNamed, meaning, leads, keyed, openin
 ghost use Rattle.script.specs.Led.{led};
 
 use crate::cuts::cut;
+use solo::solo::Figures;
 use words::numbers::digits;
 
 // The kinds of record that an engine can be opened with.
@@ -33,12 +34,10 @@ impl TryFrom<&[u8]> for KindName {
     }
 }
 
-// What an engine is opened with: the number of its workers and of its keys, the place of the first, and its kind.
+// What an engine is opened with: its figures and its kind.
 #[derive(Clone, Copy)]
 pub struct Opening {
-    pub workers: u64,
-    pub keys: u64,
-    pub first: u64,
+    pub figures: Figures,
     pub kind: KindName,
 }
 
@@ -83,12 +82,12 @@ fn open(words: &[u8]) -> Option<Command<'_>>
     let (keys, words) = leading(words)?;
     let (first, words) = leading(words)?;
     let kind = KindName::try_from(words).ok()?;
-    Some(Command::Open(Opening {
+    let figures = Figures {
         workers,
         keys,
         first,
-        kind,
-    }))
+    };
+    Some(Command::Open(Opening { figures, kind }))
 }
 
 // The run that the words behind `run` ask for; a text that is left out is empty.

@@ -9,7 +9,7 @@ use std::marker::Model;
 pub(crate) type Answers = ArrayVec<i64, MOST>;
 
 // The answers of a run, and the entry number of the `need` that skipped the rest.
-#[derive(Drop)]
+#[derive(Clone, Drop)]
 pub struct Readings {
     pub(crate) answers: Answers,
     pub(crate) skipped: Option<usize>,

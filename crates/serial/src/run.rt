@@ -13,7 +13,8 @@ use slips::entries::Entries;
 use slips::entry::{Action, Entry};
 
 // Runs the entries in order for one worker. The first `need` below its bound skips the rest.
-// Each clause sees the values through their meanings: a model of a struct around them may not speak of what `K` means.
+// The worker stands beside the entries: calls on one entry take it too, and a struct of both would be taken apart in each.
+// Each clause sees the values through their meanings: the `Value` of a model around them can't name what `K` means.
 pub fn run_alone<K: Kind>(values: &mut [K], worker: u8, entries: &Entries) -> Readings
     ensures { record { values = map K.Kind.meaning values.new; answers = result.answers; skipped = result.skipped } ≡ serial K.Kind.model worker 0 (entries_of entries.now) (map K.Kind.meaning values.old) }
 {

@@ -1,2 +1,1 @@
 pub mod History
-pub mod Turning

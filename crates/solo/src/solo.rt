@@ -16,7 +16,7 @@ use slips::read;
 use std::alloc::{AllocError, Global};
 
 // What a committed transaction is told: its place in the serial order, and what it read.
-#[derive(Drop)]
+#[derive(Clone, Drop)]
 pub struct Committed {
     pub place: u64,
     pub readings: Readings,
@@ -31,7 +31,7 @@ pub struct Figures {
 }
 
 // The values, how many workers there are, and the last place that was given.
-// Clauses see it by `view` at the meanings of `K`: an `impl Model` may not speak of a bound's members.
+// Clauses see it by `view` at the meanings of `K`: the `Value` of an `impl Model` can't name a bound's members.
 #[derive(Drop)]
 pub struct Solo<K> {
     workers: u8,
@@ -122,7 +122,7 @@ pub fn promise<K: Kind>()
     ensures { WholeRuns K.Kind.model }
 {}
 
-// As many values as there are keys, all the same.
+// As many values as there are keys, all the same. `vec!` would clone them, and of a clone it isn't known that it equals the value.
 fn fill<K: Kind>(heap: Global, keys: u64, start: K) -> Result<Vec<K>, AllocError>
     ensures { IfOk result (λ v. map K.Kind.meaning v.items ≡ replicate keys (K.Kind.meaning start)) }
 {

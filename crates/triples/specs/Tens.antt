@@ -10,7 +10,7 @@ use Rattle.std.proofs.lemmas.Bool.{cond_both}
 use Rattle.triples.specs.declared.triple.Triple.{Triple}
 use Rattle.kinds.specs.declared.operation.Verb.{Verb}
 use Rattle.kinds.specs.declared.operation.Verb.TheVariants.{Put, Add, Max, Min, Last, Top}
-use Rattle.triples.specs.Triples.{triple_of, zero, lower, by_order, better}
+use Rattle.triples.specs.Triples.{triple_of, zero, field, lower, by_order, better}
 use Rattle.triples.specs.Falling.{falling, kept, inserted, falling_ins, falling_take}
 use Rattle.kinds.specs.Model.{Rule, Model}
 use Rattle.kinds.specs.Rules.{any, refused, single}
@@ -77,10 +77,6 @@ rules Top = record {
   fresh = λ _. empty;
   merge = λ w x. fold top x w.triples;
 }
-
--- the order, the worker or the mark of a triple
-abbrev pub field : ℕ → Triple → ℤ
-field k e = cond (k == 0) e.order (cond (k == 1) (pos e.worker) (pos e.mark))
 
 -- how many there are, and then three numbers of each; zeros beyond the last
 abbrev pub show : ℕ → Tops → ℤ

@@ -1,5 +1,5 @@
 -- Triples, in their order, and by order alone.
-use Rattle.std.specs.Prelude.{ℕ, Bool, cond, ℤ, pos}
+use Rattle.std.specs.Prelude.{ℕ, Bool, cond, ℤ, pos, ◌==◌}
 use Rattle.std.specs.declared.cmp.Ordering.{Ordering}
 use Rattle.std.specs.Ordering.{is_lt, int_cmp, nat_cmp, ordering_then}
 use Rattle.triples.specs.declared.triple.Triple.{Triple}
@@ -12,6 +12,10 @@ triple_of a = record { order = a.number; worker = a.worker; mark = a.mark }
 -- the triple of zeros
 abbrev pub zero : Triple
 zero = record { order = pos 0; worker = 0; mark = 0 }
+
+-- the order, the worker or the mark of a triple
+abbrev pub field : ℕ → Triple → ℤ
+field k e = cond (k == 0) e.order (cond (k == 1) (pos e.worker) (pos e.mark))
 
 -- the numbers by which triples are compared, one after the other
 abbrev pub numbers : Triple → ℤ × (ℕ × ℕ)

@@ -50,9 +50,7 @@ impl Part for Last {
     fn shown(&self, number: u8) -> i64 {
         match (self.triple, number) {
             (Some(_), 0) => 1,
-            (Some(triple), 1) => triple.order,
-            (Some(triple), 2) => i64::from(triple.worker),
-            (Some(triple), 3) => i64::from(triple.mark),
+            (Some(triple), 1..=3) => triple.number(number - 1),
             _ => 0,
         }
     }

@@ -67,6 +67,7 @@ impl Ten {
         ensures items { held result ≡ fold topped (held self) (held shard.now) }
         ensures holds { (seen aside : List Item) → Holds seen (held self) → Holds aside (held shard.now) → Holds (aside ++ seen) (held result) }
     {
+        // A `fold` leaves both clauses open.
         let mut merged = self;
         for triple in shard.held() {
             merged = merged.with(*triple);
@@ -121,11 +122,7 @@ impl Part for Ten {
             return self.len as i64;
         }
         let triple = self.at(usize::from((number - 1) / 3));
-        match (number - 1) % 3 {
-            0 => triple.order,
-            1 => i64::from(triple.worker),
-            _ => i64::from(triple.mark),
-        }
+        triple.number((number - 1) % 3)
     }
 
     fn apply(&mut self, verb: Verb, argument: Argument) {

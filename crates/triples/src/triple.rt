@@ -1,6 +1,6 @@
 // What an operation leaves behind.
 ghost use Rattle.std.specs.Prelude.{◌≡◌};
-ghost use Rattle.triples.specs.Triples.{triple_of};
+ghost use Rattle.triples.specs.Triples.{triple_of, field};
 
 use kinds::operation::Argument;
 
@@ -21,6 +21,19 @@ impl From<Argument> for Triple {
             order: argument.number,
             worker: argument.worker,
             mark: argument.mark,
+        }
+    }
+}
+
+impl Triple {
+    // One of its numbers: the order, the worker, or else the mark.
+    pub(crate) fn number(self, place: u8) -> i64
+        ensures { result ≡ field place self }
+    {
+        match place {
+            0 => self.order,
+            1 => i64::from(self.worker),
+            _ => i64::from(self.mark),
         }
     }
 }

@@ -20,13 +20,3 @@ loop-here-preserved c =
       | in-Less w ↦ rw (w.here-items-is, w.carried-is, set-get_or l.here-items l.here-index zero) (passes by_order better _ l.here-items l.here-index l.carried zero (omega arith) (sym w.in-Less.ensures) l.invariant)
       | in-Greater w ↦ rw (w.here-items-is, w.carried-is, w.swap.ensures.x_after, w.swap.ensures.y_after) (swaps by_order better _ l.here-items l.here-index l.carried zero (omega arith) (sym w.in-Greater.ensures) l.invariant)
     ]
-
-pub returns-then-len-lt10-clause-placed : goal.returns-then-len-lt10-clause-placed
-returns-then-len-lt10-clause-placed c =
-    let l = c.loop-here in
-    kept_longer 10 c.args.len l.here-items _ _ (omega (arith, length-take c.args.len c.args.triples.now)) l.carried (omega arith) (omega arith) (arrives by_order better _ l.here-items l.here-index l.carried (omega arith) l.invariant)
-
-pub returns-else-len-lt10-clause-placed : goal.returns-else-len-lt10-clause-placed
-returns-else-len-lt10-clause-placed c =
-    let l = c.loop-here in
-    kept_full 10 c.args.len l.here-items _ _ (omega (arith, length-take c.args.len c.args.triples.now)) l.carried (omega arith) (arrives by_order better _ l.here-items l.here-index l.carried (omega arith) l.invariant)
