@@ -15,7 +15,7 @@ use script::{KindName, Opening, Query};
 use solo::solo::{Committed, Solo};
 use std::alloc::Global;
 
-// An engine of either kind. Its calls go by cases: a `dyn` engine would be made here and handed out, which the gate refuses.
+// An engine of either kind. Clauses see it by `opened`, since an enum can have no model. Its calls go by cases: a `dyn` engine would be made here and handed out, which the gate refuses.
 #[derive(Drop)]
 pub enum Engine {
     Counts(Solo<Count>),

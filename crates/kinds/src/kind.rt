@@ -7,6 +7,7 @@ use crate::operation::{Argument, Verb};
 // Each value has a meaning, and a kind's functions go by meanings and arguments alone.
 // What is taken, what splits and which numbers are shown depends on no value.
 // The part and the verb go one by one, and not in an `Operation`: to split, to freshen and to merge there is no argument.
+// So do the part and the number that it shows: a pair changes the part alone.
 pub trait Kind: Copy {
     ghost Meaning: { Type 0 };
 

@@ -33,6 +33,7 @@ pub struct Note {
 }
 
 // How a transaction ended: at its place, by a conflict on a record, or turned away where no more could be stashed.
+// It is no `Result`: a conflict is no error of a call, and the rules speak of the three side by side.
 #[derive(Clone, Copy)]
 pub enum Outcome {
     Committed { place: u64 },

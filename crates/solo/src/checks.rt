@@ -9,6 +9,7 @@ use refusals::Refusal;
 use slips::entry::{Action, Entry};
 
 // Refuses the first entry whose key has no record, and if each has one, the first that the kind does not take.
+// The worker stands beside the entries, as in `run_alone`.
 pub(crate) fn check_entries<K: Kind>(
     keys: usize,
     worker: u8,

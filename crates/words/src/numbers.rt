@@ -3,6 +3,7 @@ ghost use Rattle.std.specs.Prelude.{◌≡◌};
 ghost use Rattle.words.specs.Numbers.{Decimal, Integer, Keyed, Spelt, numeral};
 
 // The number that decimal digits spell, where it fits 64 bits; zeros may lead.
+// Not by the library's `parse`: that reads a `str`, which bytes need not be, and takes a leading `+`.
 pub fn digits(bytes: &[u8]) -> Option<u64>
     ensures { result ≡ numeral bytes.now }
 {
