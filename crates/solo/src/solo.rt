@@ -77,7 +77,7 @@ impl<K: Kind> Solo<K> {
     }
 
     // A number that a part of a record shows, if there is such a record, part and number.
-    // The three go one by one: part and number are those of a kind's calls, of 8 bits, and a key is a key here alone.
+    // Part and number are of 8 bits, as a kind's calls take them; a script's are of 64, so this takes no struct of the script's.
     pub fn shown(&self, key: u64, part: u8, number: u8) -> Option<i64>
         ensures { result ≡ shown_at K.Kind.model (view K.Kind.meaning self.now) key part number }
     {
