@@ -7,7 +7,7 @@ ghost use Rattle.slips.specs.Forms.{Heading, Shown, Mark, ReadWord, Acts, Misses
 use crate::entry::{Action, Entry};
 use kinds::operation::Verb;
 use words::numbers;
-use words::word::Word;
+use words::word::{Word, word_at};
 
 // What an entry's first word asks for.
 #[derive(Clone, Copy)]
@@ -31,14 +31,14 @@ pub(crate) fn entry_at(text: &[u8], at: usize) -> Result<(Entry, usize), usize>
     requires { at < length text.now }
     ensures { MatchResult result (λ p. EntryAt text.now at p.0 p.1) (λ b. WrongAt text.now at b) }
 {
-    let first = Word::at(text, at);
+    let first = word_at(text, at);
     let head = read_word(&first)?;
-    let second = first.next();
+    let second = first.next(text);
     let (key, part) = read_word(&second)?;
-    let third = second.next();
-    let fourth = third.next();
+    let third = second.next(text);
+    let fourth = third.next(text);
     let (action, last) = action(head, third, fourth)?;
-    let end = last.ending()?;
+    let end = last.ending(text)?;
     Ok((Entry { key, part, action }, end))
 }
 

@@ -1,17 +1,14 @@
 -- A word that a text has at a place.
-use Rattle.std.specs.Prelude.{◌≡◌, ℕ, ◌+◌, ◌<◌, ◌⊎◌, List, [], ◌∷◌, ◌++◌, length, drop, Ok, Err, Result, ◌≢◌, slice_index}
+use Rattle.std.specs.Prelude.{◌≡◌, ℕ, ◌+◌, ◌<◌, ◌≤◌, min, ◌⊎◌, List, [], ◌∷◌, ◌++◌, length, drop, Ok, Err, Result, ◌≢◌, slice_index}
 use Rattle.std.specs.List.{AllByRecursion}
 use Rattle.words.specs.declared.word.Word.{Word}
 
 abbrev pub bytes_of : Word → List ℕ
 bytes_of w = w.bytes.now
 
--- the text behind a word, and where it begins
-abbrev pub rest_of : Word → List ℕ
-rest_of w = w.rest.now
-
-abbrev pub stop : Word → ℕ
-stop w = w.at + length (bytes_of w)
+-- where a word ends in a text; beyond the text's end, that is the end
+abbrev pub stop : List ℕ → Word → ℕ
+stop text w = min (w.at + length (bytes_of w)) (length text)
 
 -- bytes that no space and no ending byte is among
 abbrev pub Plain : List ℕ → Type 0
@@ -22,26 +19,27 @@ abbrev pub Stops : List ℕ → Type 0
 Stops [] = Unit {0}
 Stops (c ∷ cs) = (c ≡ 32) ⊎ (c ≡ 10)
 
--- the longest plain bytes that a text begins with at a place
+-- the longest plain bytes at a place
 pub record WordAt (text : List ℕ) (at : ℕ) (w : Word) : Type 0 where
   pub place : w.at ≡ at
   pub plain : Plain (bytes_of w)
-  pub split : text ≡ bytes_of w ++ rest_of w
-  pub stops : Stops (rest_of w)
+  pub split : drop at text ≡ bytes_of w ++ drop (stop text w) text
+  pub stops : Stops (drop (stop text w) text)
+  pub within : w.at + length (bytes_of w) ≤ length text
 
--- a text begins with a space
-abbrev pub Spaced : List ℕ → Type 0
-Spaced text = (0 < length text) × (slice_index text 0 ≡ 32)
+-- a space stands at the place
+abbrev pub Spaced : List ℕ → ℕ → Type 0
+Spaced text at = (at < length text) × (slice_index text at ≡ 32)
 
--- the word behind another: after a space, or else an empty one that stands for a missing word
-abbrev pub Behind : Word → Word → Type 0
-Behind v w = (Spaced (rest_of v) × WordAt (drop 1 (rest_of v)) (stop v + 1) w) ⊎ ((Spaced (rest_of v) → ⊥) × (w.at ≡ stop v) × (bytes_of w ≡ []) × (rest_of w ≡ rest_of v))
+-- the word behind a place: after a space, or else an empty one that stands for a missing word
+abbrev pub Behind : List ℕ → ℕ → Word → Type 0
+Behind text at w = (Spaced text at × WordAt text (at + 1) w) ⊎ ((Spaced text at → ⊥) × (w.at ≡ at) × (bytes_of w ≡ []))
 
--- a text begins with an ending byte
-abbrev pub Ended : List ℕ → Type 0
-Ended text = (0 < length text) × (slice_index text 0 ≡ 10)
+-- an ending byte stands at the place
+abbrev pub Ended : List ℕ → ℕ → Type 0
+Ended text at = (at < length text) × (slice_index text at ≡ 10)
 
--- the place behind an ending byte that stands behind a word; or else a surplus word begins behind a space, or the ending byte is missing
-abbrev pub Ending : Word → Result ℕ ℕ → Type 0
-Ending w (Ok n) = Ended (rest_of w) × (n ≡ stop w + 1)
-Ending w (Err b) = (Spaced (rest_of w) × (b ≡ stop w + 1)) ⊎ ((Spaced (rest_of w) → ⊥) × (Ended (rest_of w) → ⊥) × (b ≡ stop w))
+-- the place behind an ending byte at a place; or else a surplus word begins behind a space, or the ending byte is missing
+abbrev pub Ending : List ℕ → ℕ → Result ℕ ℕ → Type 0
+Ending text at (Ok n) = Ended text at × (n ≡ at + 1)
+Ending text at (Err b) = (Spaced text at × (b ≡ at + 1)) ⊎ ((Spaced text at → ⊥) × (Ended text at → ⊥) × (b ≡ at))
