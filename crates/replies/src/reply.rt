@@ -8,7 +8,7 @@ use script::UnescapeError;
 use solo::solo::Committed;
 
 // What a command gave: an engine was opened, a transaction committed, or a number is shown.
-#[derive(Clone, Drop)]
+#[derive(Clone, Copy)]
 pub enum Reply {
     Joined,
     Committed(Committed),

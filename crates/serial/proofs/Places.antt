@@ -38,7 +38,7 @@ module _ {X M : Type 0} (meaning : X → M) (xs : List X) (i : ℕ) where
         map-set meaning xs i y ∙ ap (set (map meaning xs) i) (e ∙ ap f (sym (meant (meaning x)))) ∙ set_modify f (map meaning xs) i (meaning x)
 
   module _ (past : length xs ≤ i) where
-    read_past : (f : M → ℤ) → pos 0 ≡ peek i f (map meaning xs)
+    pub read_past : (f : M → ℤ) → pos 0 ≡ peek i f (map meaning xs)
     read_past f = sym (peek_past f (map meaning xs) i (rw length-map past))
 
     pub changed_past : (f : M → M) → map meaning xs ≡ modify i f (map meaning xs)

@@ -1,4 +1,4 @@
 pub mod Alone
-pub mod Readings
+pub mod Answers
 pub mod Places
 pub mod Serial

@@ -1,32 +1,33 @@
 // What a run gave its owner, with no memory of its own.
-ghost use Rattle.std.specs.Prelude.{◌≡◌};
+ghost use Rattle.std.specs.Prelude.{◌≡◌, ◌≤◌, length};
 
-use arrayvec::ArrayVec;
 use slips::entries::MOST;
-use std::marker::Model;
 
-// The answers of `show` entries in their order: an entry gives one at most.
-pub(crate) type Answers = ArrayVec<i64, MOST>;
+// The answers of `show` entries in their order: the first `len` of the items. An entry gives one at most.
+// They are copied as other small values are, so an array stands here beside its length: an `ArrayVec` is no `Copy`.
+#[derive(Clone, Copy)]
+pub(crate) struct Answers {
+    items: [i64; MOST],
+    len: usize,
+    ghost long: { length items ≡ 16 },
+    ghost few: { len ≤ 16 },
+}
 
 // The answers of a run, and the entry number of the `need` that skipped the rest.
-#[derive(Clone, Drop)]
+// It has no `impl Model`: that of a `Copy` type gives its fields back, and the answers do not say what stands behind them.
+#[derive(Clone, Copy)]
 pub struct Readings {
     pub(crate) answers: Answers,
     pub(crate) skipped: Option<usize>,
 }
 
-impl Model for Readings {
-    ghost use Rattle.serial.specs.Readings.{Given};
-
-    ghost Value = { Given };
-
-    ghost view = { λ r. record { answers = r.answers.items; skipped = r.skipped } };
-}
-
 impl Readings {
+    ghost use Rattle.std.specs.Prelude.{◌≡◌};
+    ghost use Rattle.serial.specs.Answers.{answers_of};
+
     // The answers in their order.
     pub fn answers(&self) -> &[i64]
-        ensures { result.now ≡ self.now.answers }
+        ensures { result.now ≡ answers_of self.now }
     {
         self.answers.as_slice()
     }
@@ -36,5 +37,36 @@ impl Readings {
         ensures { result ≡ self.now.skipped }
     {
         self.skipped
+    }
+}
+
+impl Answers {
+    ghost use Rattle.std.specs.Prelude.{◌≡◌, ◌<◌, [], ◌∷◌, ◌++◌, length};
+    ghost use Rattle.serial.specs.Answers.{listed};
+
+    // Before the first entry.
+    pub(crate) fn new() -> Answers
+        ensures { listed result ≡ [] }
+    {
+        Answers {
+            items: [0; MOST],
+            len: 0,
+        }
+    }
+
+    // The answers so far.
+    pub(crate) fn as_slice(&self) -> &[i64]
+        ensures { result.now ≡ listed self.now }
+    {
+        &self.items[0..self.len]
+    }
+
+    // One more answer.
+    pub(crate) fn push(&mut self, answer: i64)
+        requires { length (listed self.old) < 16 }
+        ensures { listed self.new ≡ listed self.old ++ (answer ∷ []) }
+    {
+        self.items[self.len] = answer;
+        self.len += 1;
     }
 }

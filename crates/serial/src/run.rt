@@ -1,8 +1,8 @@
 // The run of one transaction, entry by entry, directly on the values.
-ghost use Rattle.std.specs.Prelude.{◌≡◌, ◌<◌, not, ◌++◌, map};
-ghost use Rattle.arrayvec.specs.ArrayVec.{array_vec_len};
+ghost use Rattle.std.specs.Prelude.{◌≡◌, ◌<◌, not, ◌++◌, map, length};
 ghost use Rattle.slips.specs.Listed.{entries_of};
 ghost use Rattle.serial.specs.Alone.{RunsAlone, tells, falls_short};
+ghost use Rattle.serial.specs.Answers.{answers_of, listed};
 ghost use Rattle.serial.specs.Places.{modify};
 ghost use Rattle.serial.specs.Serial.{reads, after, serial};
 
@@ -16,7 +16,7 @@ use slips::entry::{Action, Entry};
 // The worker stands beside the entries: calls on one entry take it too, and a struct of both would be taken apart in each.
 // Each clause sees the values through their meanings: the `Value` of a model around them can't name what `K` means.
 pub fn run_alone<K: Kind>(values: &mut [K], worker: u8, entries: &Entries) -> Readings
-    ensures { record { values = map K.Kind.meaning values.new; answers = result.answers; skipped = result.skipped } ≡ serial K.Kind.model worker 0 (entries_of entries.now) (map K.Kind.meaning values.old) }
+    ensures { record { values = map K.Kind.meaning values.new; answers = answers_of result; skipped = result.skipped } ≡ serial K.Kind.model worker 0 (entries_of entries.now) (map K.Kind.meaning values.old) }
 {
     let mut answers = Answers::new();
     let all = entries.as_slice();
@@ -41,9 +41,9 @@ pub fn promise<K: Kind>()
 
 // Runs one entry, and says whether the next one is to be run.
 fn run_entry<K: Kind>(values: &mut [K], worker: u8, entry: Entry, answers: &mut Answers) -> bool
-    requires { array_vec_len answers.old < 16 }
+    requires { length (listed answers.old) < 16 }
     ensures values { map K.Kind.meaning values.new ≡ after K.Kind.model worker entry entry.action (map K.Kind.meaning values.old) }
-    ensures answers { answers.new.items ≡ answers.old.items ++ tells K.Kind.model entry entry.action (map K.Kind.meaning values.old) }
+    ensures answers { listed answers.new ≡ listed answers.old ++ tells K.Kind.model entry entry.action (map K.Kind.meaning values.old) }
     ensures goes_on { not result ≡ falls_short K.Kind.model entry entry.action (map K.Kind.meaning values.old) }
 {
     match entry.action {

@@ -1,10 +1,10 @@
 -- Which texts are read, as what, and how another is refused.
 use Rattle.std.specs.Prelude.{◌≡◌, ℕ, ◌<◌, ◌≤◌, ◌⊎◌, List, [], ◌∷◌, length, Ok, Err, count_by, Result, nat_eq}
 use Rattle.std.specs.List.{AllByRecursion}
-use Rattle.arrayvec.specs.ArrayVec.{ArrayVec}
 use Rattle.slips.specs.Canon.{InRange, render}
 use Rattle.slips.specs.Listed.{entries_of}
 use Rattle.slips.specs.Wrong.{Fails}
+use Rattle.slips.specs.declared.entries.Entries.{Entries}
 use Rattle.slips.specs.declared.entry.Entry.{Entry}
 use Rattle.slips.specs.declared.fault.Fault.{Fault}
 use Rattle.slips.specs.declared.fault.Fault.TheVariants.{Size, Grammar}
@@ -23,7 +23,7 @@ code Size = 8 ∷ []
 code (Grammar entry byte) = 9 ∷ entry ∷ byte ∷ []
 
 -- what the reader tells
-abbrev pub told : Result (ArrayVec Entry) Fault → Result (List Entry) (List ℕ)
+abbrev pub told : Result Entries Fault → Result (List Entry) (List ℕ)
 told (Ok es) = Ok (entries_of es)
 told (Err f) = Err (code f)
 

@@ -16,7 +16,7 @@ use slips::read;
 use std::alloc::{AllocError, Global};
 
 // What a committed transaction is told: its place in the serial order, and what it read.
-#[derive(Clone, Drop)]
+#[derive(Clone, Copy)]
 pub struct Committed {
     pub place: u64,
     pub readings: Readings,
