@@ -87,17 +87,32 @@ impl Refusal {
 }
 
 // The number, and then the entry and the byte that the refusal names.
+// Case by case, with the number in the text: standard output has no buffer, so each value that is written apart is a write of its own.
 impl fmt::Display for Refusal {
     ghost output = { λ r. Some (refusal_text (code r)) };
 
+    #[tactic(auto, using(crate::proofs::Wording::figures))]
     fn fmt<W: fmt::Write>(&self, f: &mut fmt::Formatter<W>) -> fmt::Result {
-        match (self.number(), self.entry(), self.byte()) {
-            (None, _, _) => write!(f, "no memory"),
-            (Some(number), None, _) => write!(f, "refused {number}"),
-            (Some(number), Some(entry), None) => write!(f, "refused {number} entry {entry}"),
-            (Some(number), Some(entry), Some(byte)) => {
-                write!(f, "refused {number} entry {entry} byte {byte}")
-            }
+        match self {
+            Refusal::Figures => write!(f, "refused 1"),
+            Refusal::TableLength => write!(f, "refused 2"),
+            Refusal::NoWorker => write!(f, "refused 3"),
+            Refusal::WrongPhase => write!(f, "refused 4"),
+            Refusal::HandFull => write!(f, "refused 5"),
+            Refusal::NothingRuns => write!(f, "refused 6"),
+            Refusal::TicketsOut => write!(f, "refused 7"),
+            Refusal::TextSize => write!(f, "refused 8"),
+            Refusal::Grammar { entry, byte } => write!(f, "refused 9 entry {entry} byte {byte}"),
+            Refusal::NoKey { entry } => write!(f, "refused 10 entry {entry}"),
+            Refusal::NotTaken { entry } => write!(f, "refused 11 entry {entry}"),
+            Refusal::StashEmpty => write!(f, "refused 12"),
+            Refusal::LeftOver => write!(f, "refused 13"),
+            Refusal::Acknowledged => write!(f, "refused 14"),
+            Refusal::BadSplit => write!(f, "refused 15"),
+            Refusal::NotAcknowledged => write!(f, "refused 16"),
+            Refusal::NotEnded => write!(f, "refused 17"),
+            Refusal::ShortBuffer => write!(f, "refused 18"),
+            Refusal::Memory => write!(f, "no memory"),
         }
     }
 }
