@@ -53,8 +53,8 @@ impl Desk {
     }
 }
 
-// Does what a command line asks for.
-fn reply(engine: &mut Option<Engine>, heap: Global, line: &[u8]) -> Result<Reply, Failure>
+// Does what a command line asks for, with the engine that is open, if one is.
+pub fn reply(engine: &mut Option<Engine>, heap: Global, line: &[u8]) -> Result<Reply, Failure>
     ensures { Replies (engine_of engine.old) line.now (told result) (engine_of engine.new) }
 {
     match parse(line) {

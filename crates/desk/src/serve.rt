@@ -4,7 +4,7 @@ ghost use Rattle.replies.specs.Totals.{Fair};
 ghost use Rattle.desk.specs.Lines.{unbroken};
 
 use crate::desk::Desk;
-use replies::reply::{Failure, Reply};
+use replies::texts::Answered;
 use replies::totals::Totals;
 use script::is_command;
 use std::alloc::Global;
@@ -36,18 +36,11 @@ fn serve_line<W: Write>(heap: Global, desk: &mut Desk, line: &[u8], out: &mut W)
     out.write_all(line)?;
     if is_command(line) {
         let answer = desk.answer(heap, line);
-        write_answer(out, &answer)?;
+        let answered = Answered(&answer);
+        write!(out, " => {answered}")?;
     }
     out.write_all(b"\n")?;
     out.flush()
-}
-
-// Writes what a command was answered.
-fn write_answer<W: Write>(out: &mut W, answer: &Result<Reply, Failure>) -> io::Result<()> {
-    match answer {
-        Ok(reply) => write!(out, " => {reply}"),
-        Err(failure) => write!(out, " => {failure}"),
-    }
 }
 
 // A line without the byte that breaks it from the next.

@@ -1,6 +1,6 @@
 // How replies are written.
 ghost use Rattle.std.specs.Prelude.{Some};
-ghost use Rattle.replies.specs.Replies.{told_reply, told_failure};
+ghost use Rattle.replies.specs.Replies.{told, told_reply, told_failure};
 ghost use Rattle.replies.specs.Texts.{answers_text, reply_text};
 
 use crate::reply::{Failure, Reply};
@@ -47,6 +47,21 @@ impl fmt::Display for Failure {
             Failure::NoEngine => write!(f, "no engine"),
             Failure::NoSuchNumber => write!(f, "no such number"),
             Failure::Refused(refusal) => write!(f, "{refusal}"),
+        }
+    }
+}
+
+// What a command was answered: what it gave, or why it is not served.
+#[derive(Clone, Copy)]
+pub struct Answered<'a>(pub &'a Result<Reply, Failure>);
+
+impl fmt::Display for Answered<'_> {
+    ghost output = { λ a. Some (reply_text (told a.0.now)) };
+
+    fn fmt<W: fmt::Write>(&self, f: &mut fmt::Formatter<W>) -> fmt::Result {
+        match self.0 {
+            Ok(reply) => write!(f, "{reply}"),
+            Err(failure) => write!(f, "{failure}"),
         }
     }
 }
