@@ -1,4 +1,4 @@
--- How a call is refused: the first of its tests that finds something wrong, under the number that docs/RULES.md gives it.
+-- How a call is refused: the first of its tests that finds something wrong. What each number says is in `code` of the crate `refusals`.
 use Rattle.std.specs.Prelude.{ℕ, suc, Bool, cond, not, ◌&&◌, List, [], ◌∷◌, Some, None, Ok, Err, Option, Result, nat_le}
 use Rattle.std.specs.Option.{option_map}
 use Rattle.kinds.specs.Model.{Model}
