@@ -1,5 +1,7 @@
-// An engine of each kind opens, where there is memory.
+// An engine of each kind opens, and lines are answered, where there is memory.
+use crate::desk::reply;
 use crate::engine::Engine;
+use replies::reply::Reply;
 use script::{KindName, Opening};
 use solo::solo::Figures;
 
@@ -17,4 +19,16 @@ fn opens(rt: &HostRuntime, kind: KindName) -> bool {
 fn engines_open(rt: HostRuntime) {
     assert!(rt; opens(&rt, KindName::Count), "an engine of counts opens");
     assert!(rt; opens(&rt, KindName::Four), "an engine of records opens");
+}
+
+#[test]
+fn lines_are_answered(rt: HostRuntime) {
+    let mut engine = None;
+    let opened = reply(&mut engine, rt.alloc(), b"open 1 2 1 count");
+    assert!(rt; matches!(opened, Ok(Reply::Joined)), "an engine is opened");
+    let ran = reply(&mut engine, rt.alloc(), b"run 0 add 0.0 5\\n");
+    assert!(rt;
+        matches!(ran, Ok(Reply::Committed(_))),
+        "a transaction commits"
+    );
 }
